@@ -1,0 +1,188 @@
+// The fields of a job's records.
+use net::Counts;
+use quantity::Capacitance;
+use quantity::Resistance;
+ghost use mathlib.Core.Path.{_≡_};
+ghost use Prim.Native.Nat.{_+_, _*_, _^_, _<_, _≤_};
+ghost use lib.ListN.{length};
+ghost use mathlib.Core.Bool.{cond};
+ghost use lib.Dec.{ltb};
+ghost use Rattle.net.specs.Job.{byte, word, widthAt, sizeAt, placeAt, segmentAt};
+ghost use Rattle.net.specs.Net.{netBy};
+ghost use Rattle.net.specs.Checked.{Held};
+ghost use Rattle.job.specs.WireAt.{WireAt};
+
+// A segment's wire at one of its widths.
+pub struct Wire {
+    pub resistance: Resistance,
+    pub capacitance: Capacitance,
+}
+
+fn number(x: u8) -> u64
+    ensures { λ r. ⌜ (r ≡ x) × (r < 256) ⌝ }
+{
+    x as u64
+}
+
+fn index(x: u8) -> usize
+    ensures { λ r. ⌜ (r ≡ x) × (r < 256) ⌝ }
+{
+    x as usize
+}
+
+// Four bytes, the lowest first.
+pub fn word_at(b: &[u8], at: usize) -> u64
+    requires { ⌜ at + 4 ≤ length (now b) ⌝ }
+    ensures { λ r. ⌜ (r ≡ word (now (b .entry)) at) × (r < 2 ^ 32) ⌝ }
+{
+    number(b[at])
+        + 256 * number(b[at + 1])
+        + 65536 * number(b[at + 2])
+        + 16777216 * number(b[at + 3])
+}
+
+// One byte, as an index.
+pub fn index_at(b: &[u8], at: usize) -> usize
+    requires { ⌜ at < length (now b) ⌝ }
+    ensures { λ r. ⌜ (r ≡ byte (now (b .entry)) at) × (r < 256) ⌝ }
+{
+    index(b[at])
+}
+
+// A word of width k's record.
+pub fn row_word(job: &[u8], counts: Counts, k: usize, at: usize) -> u64
+    requires { ⌜ Held counts (now job) ⌝ }
+    requires { ⌜ (k < counts .widths) × (at ≤ 12) ⌝ }
+    ensures { λ r. ⌜ (r ≡ word (now (job .entry)) (widthAt k + at)) × (r < 2 ^ 32) ⌝ }
+{
+    word_at(job, 16 * k + at)
+}
+
+// A word of driver size k's record.
+pub fn size_word(job: &[u8], counts: Counts, k: usize, at: usize) -> u64
+    requires { ⌜ Held counts (now job) ⌝ }
+    requires { ⌜ (k < counts .sizes) × (at ≤ 12) ⌝ }
+    ensures { λ r. ⌜ (r ≡ word (now (job .entry)) (sizeAt counts k + at)) × (r < 2 ^ 32) ⌝ }
+{
+    word_at(job, 16 * (counts.widths + k) + at)
+}
+
+// A word of segment i's record.
+pub fn segment_word(job: &[u8], counts: Counts, i: usize, at: usize) -> u64
+    requires { ⌜ Held counts (now job) ⌝ }
+    requires { ⌜ (i < counts .segments) × (at ≤ 12) ⌝ }
+    ensures { λ r. ⌜ (r ≡ word (now (job .entry)) (segmentAt counts i + at)) × (r < 2 ^ 32) ⌝ }
+{
+    word_at(
+        job,
+        16 * (counts.widths + counts.sizes + (counts.stages + i)) + at,
+    )
+}
+
+// The node that segment i hangs at.
+pub fn parent(job: &[u8], counts: Counts, i: usize) -> usize
+    requires { ⌜ Held counts (now job) ⌝ }
+    requires { ⌜ i < counts .segments ⌝ }
+    ensures { λ r. ⌜ r ≡ netBy counts (now (job .entry)) .parent i ⌝ }
+{
+    index(job[16 * (counts.widths + counts.sizes + (counts.stages + i)) + 2])
+}
+
+// The weight of segment i's sink.
+pub fn weight(job: &[u8], counts: Counts, i: usize) -> u64
+    requires { ⌜ Held counts (now job) ⌝ }
+    requires { ⌜ i < counts .segments ⌝ }
+    ensures { λ r. ⌜ r ≡ netBy counts (now (job .entry)) .weight i ⌝ }
+{
+    number(job[16 * (counts.widths + counts.sizes + (counts.stages + i)) + 12])
+}
+
+// The capacitance of segment i's sink.
+pub fn sink(job: &[u8], counts: Counts, i: usize) -> Capacitance
+    requires { ⌜ Held counts (now job) ⌝ }
+    requires { ⌜ i < counts .segments ⌝ }
+    ensures { λ r. ⌜ r .0 ≡ netBy counts (now (job .entry)) .sink i ⌝ }
+{
+    Capacitance(segment_word(job, counts, i, 8))
+}
+
+// Segment i's wire at the width k.
+pub fn wire_at(job: &[u8], counts: Counts, i: usize, k: usize) -> Wire
+    requires { ⌜ Held counts (now job) ⌝ }
+    requires { ⌜ (i < counts .segments) × (k < counts .widths) ⌝ }
+    ensures { λ r. ⌜ WireAt (netBy counts (now (job .entry))) i k r ⌝ }
+{
+    let resistance = row_word(job, counts, k, 4);
+    let capacitance = row_word(job, counts, k, 8);
+    let length = segment_word(job, counts, i, 4);
+    Wire {
+        resistance: quantity::wire_resistance(Resistance(resistance), length),
+        capacitance: quantity::wire_capacitance(Capacitance(capacitance), length),
+    }
+}
+
+// The resistance of a driver of the size k.
+pub fn driver_resistance(job: &[u8], counts: Counts, k: usize) -> Resistance
+    requires { ⌜ Held counts (now job) ⌝ }
+    requires { ⌜ k < counts .sizes ⌝ }
+    ensures { λ r. ⌜ r .0 ≡ netBy counts (now (job .entry)) .driverResistance k ⌝ }
+{
+    Resistance(size_word(job, counts, k, 4))
+}
+
+// The gate capacitance of a driver of the size k.
+pub fn gate(job: &[u8], counts: Counts, k: usize) -> Capacitance
+    requires { ⌜ Held counts (now job) ⌝ }
+    requires { ⌜ k < counts .sizes ⌝ }
+    ensures { λ r. ⌜ r .0 ≡ netBy counts (now (job .entry)) .gate k ⌝ }
+{
+    Capacitance(size_word(job, counts, k, 8))
+}
+
+// The output capacitance of a driver of the size k.
+pub fn output(job: &[u8], counts: Counts, k: usize) -> Capacitance
+    requires { ⌜ Held counts (now job) ⌝ }
+    requires { ⌜ k < counts .sizes ⌝ }
+    ensures { λ r. ⌜ r .0 ≡ netBy counts (now (job .entry)) .output k ⌝ }
+{
+    Capacitance(size_word(job, counts, k, 12))
+}
+
+// A byte of place p's record.
+pub fn place_byte(job: &[u8], counts: Counts, p: usize, at: usize) -> usize
+    requires { ⌜ Held counts (now job) ⌝ }
+    requires { ⌜ (p < counts .stages + counts .segments) × (at < 16) ⌝ }
+    ensures { λ r. ⌜ r ≡ byte (now (job .entry)) (placeAt counts p + at) ⌝ }
+{
+    index(job[16 * (counts.widths + counts.sizes + p) + at])
+}
+
+// A byte of place p's record that a stage has at one offset and a segment at another.
+fn range_byte(job: &[u8], counts: Counts, p: usize, in_stage: usize, in_segment: usize) -> usize
+    requires { ⌜ Held counts (now job) ⌝ }
+    requires { ⌜ (p < counts .stages + counts .segments) × (in_stage < 16) × (in_segment < 16) ⌝ }
+    ensures { λ r. ⌜ r ≡ cond (ltb p (counts .stages)) (byte (now (job .entry)) (placeAt counts p + in_stage)) (byte (now (job .entry)) (placeAt counts p + in_segment)) ⌝ }
+{
+    if p < counts.stages {
+        return place_byte(job, counts, p, in_stage);
+    }
+    place_byte(job, counts, p, in_segment)
+}
+
+// The lowest index that place p may have.
+pub fn lowest(job: &[u8], counts: Counts, p: usize) -> usize
+    requires { ⌜ Held counts (now job) ⌝ }
+    requires { ⌜ p < counts .stages + counts .segments ⌝ }
+    ensures { λ r. ⌜ r ≡ netBy counts (now (job .entry)) .lowest p ⌝ }
+{
+    range_byte(job, counts, p, 2, 13)
+}
+
+// The highest index that place p may have.
+pub fn highest(job: &[u8], counts: Counts, p: usize) -> usize
+    requires { ⌜ Held counts (now job) ⌝ }
+    requires { ⌜ p < counts .stages + counts .segments ⌝ }
+    ensures { λ r. ⌜ r ≡ netBy counts (now (job .entry)) .highest p ⌝ }
+{
+    range_byte(job, counts, p, 3, 14)
+}

@@ -1,0 +1,9 @@
+pub mod Sides
+pub mod ListLaws
+pub mod Boxes
+pub mod Sums
+pub mod Leasts
+pub mod Refining
+pub mod Theorems
+pub mod Scan
+pub mod Example

@@ -1,0 +1,5 @@
+pub mod Side
+pub mod Lists
+pub mod Space
+pub mod Least
+pub mod Refine

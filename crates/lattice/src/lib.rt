@@ -1,0 +1,1 @@
+// No code: definitions in specs/, theorems in proofs/.

@@ -1,0 +1,9 @@
+pub mod Sum
+pub mod Forest
+pub mod Branches
+pub mod Exchange
+pub mod Dominance
+pub mod Bound
+pub mod Questions
+pub mod Demands
+pub mod Starred

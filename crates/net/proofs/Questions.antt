@@ -1,0 +1,300 @@
+-- What passed questions give: a job that passes questions 1 to 11 has the facts of `Checked`, so its net is ordered and within the limits, its
+-- allowed sizings are closed and not empty, its delay is submodular on them and below 2 ^ 63.
+use mathlib.Core.Path.{_≡_, refl}
+use mathlib.Core.Logic.{_↔_}
+use mathlib.Core.Bool.{Bool, true, false, cond, _&&_}
+use mathlib.Core.List.{List, _∷_}
+use Prim.Native.Nat.{ℕ, zero, suc, _+_, _*_, _-_, _^_, _≤_, _<_}
+use native.Mathlib.Nat.{mul-le-mul, mul-le-mul-right, le-dest, div-add-mod'}
+use native.Mathlib.Decide.{decLe}
+use native.Mathlib.Omega.{arith}
+use borrow.Author.Tests.{lt-ltb, le-ltb, ne-eqb}
+use lib.Dec.{T, leb, ltb, eqb, leb→le, ltb→lt, lit≤}
+use lib.ListN.{length}
+use Rattle.lattice.specs.Lists.{at, every, tabulate}
+use Rattle.lattice.specs.Space.{Allowed, Falls, Rises, Boxed, inBox, within, Submodular}
+use Rattle.lattice.proofs.ListLaws.{and-T, T-and, every-at, length-tabulate, at-tabulate}
+use Rattle.lattice.proofs.Boxes.{inBox-iff}
+use Rattle.lattice.proofs.Sums.{rises-steps, falls-steps}
+use Rattle.net.specs.declared.Counts.{Counts}
+use Rattle.net.specs.Job.{records, kind, count, countsOf, placesBy, rowResistance, rowCapacitance, sizeResistance, sizeGate, sizeOutput, stageLowest, stageHighest, segmentParent, segmentSink, segmentLength, sinkCapacitance, sinkWeight, segmentLowest, segmentHighest}
+use Rattle.net.specs.Net.{Net, places, netBy, netOf}
+use Rattle.net.specs.Delay.{delay}
+use Rattle.net.specs.Sizings.{allowed}
+use Rattle.net.specs.Questions.{inRange, question1, question2, question3, question4, sinkOrZero, question5, question6, question7, question8, question9, question10, question11, Question, ask, firstNo, jobQuestions, refusal}
+use Rattle.net.specs.Checked.{Held, Checked, InRanges, Ordered, Limited}
+use Rattle.net.proofs.Dominance.{delay-submodular}
+use Rattle.net.proofs.Bound.{delay-fits}
+
+-- where no question fails, the first passes and so do the rest
+pub firstNo-zero : (n : ℕ) (q : Bool) (qs : List Question) → firstNo (ask (suc n) q ∷ qs) ≡ 0 → T q × (firstNo qs ≡ 0)
+unfolding firstNo
+firstNo-zero n true qs e = (tt, e)
+firstNo-zero n false qs e = absurd (omega arith)
+
+-- The eleven questions, all passed.
+pub record Passed (c : Counts) (b : List ℕ) : Type 0 where
+  pub one : T (question1 b)
+  pub two : T (question2 b)
+  pub three : T (question3 c)
+  pub four : T (question4 c b)
+  pub five : T (question5 c b)
+  pub six : T (question6 c b)
+  pub seven : T (question7 c b)
+  pub eight : T (question8 c b)
+  pub nine : T (question9 c b)
+  pub ten : T (question10 c b)
+  pub eleven : T (question11 c b)
+
+pub passed : (b : List ℕ) → refusal b ≡ 0 → Passed (countsOf b) b
+unfolding refusal jobQuestions
+passed b e =
+    let c : Counts = countsOf b in
+    let a1 = firstNo-zero 0 (question1 b) _ e in
+    let a2 = firstNo-zero 1 (question2 b) _ (a1 .1) in
+    let a3 = firstNo-zero 2 (question3 c) _ (a2 .1) in
+    let a4 = firstNo-zero 3 (question4 c b) _ (a3 .1) in
+    let a5 = firstNo-zero 4 (question5 c b) _ (a4 .1) in
+    let a6 = firstNo-zero 5 (question6 c b) _ (a5 .1) in
+    let a7 = firstNo-zero 6 (question7 c b) _ (a6 .1) in
+    let a8 = firstNo-zero 7 (question8 c b) _ (a7 .1) in
+    let a9 = firstNo-zero 8 (question9 c b) _ (a8 .1) in
+    let a10 = firstNo-zero 9 (question10 c b) _ (a9 .1) in
+    let a11 = firstNo-zero 10 (question11 c b) _ (a10 .1) in
+    record {
+      one = a1 .0;
+      two = a2 .0;
+      three = a3 .0;
+      four = a4 .0;
+      five = a5 .0;
+      six = a6 .0;
+      seven = a7 .0;
+      eight = a8 .0;
+      nine = a9 .0;
+      ten = a10 .0;
+      eleven = a11 .0;
+    }
+
+pub in-range : (l h v : ℕ) → T (inRange l h v) → (l ≤ v) × (v ≤ h)
+in-range l h v t = let a = and-T (leb l v) (leb v h) t in (leb→le l v (a .0), leb→le v h (a .1))
+
+-- a record is of one kind
+one-kind : (k : ℕ) → cond (eqb k 1) 1 0 + cond (eqb k 2) 1 0 + cond (eqb k 3) 1 0 + cond (eqb k 4) 1 0 ≤ 1
+one-kind zero = lit≤ tt
+one-kind (suc zero) = lit≤ tt
+one-kind (suc (suc zero)) = lit≤ tt
+one-kind (suc (suc (suc zero))) = lit≤ tt
+one-kind (suc (suc (suc (suc zero)))) = lit≤ tt
+one-kind (suc (suc (suc (suc (suc k))))) =
+    rw (ne-eqb (suc (suc (suc (suc (suc k))))) 1 (λ e. omega arith), ne-eqb (suc (suc (suc (suc (suc k))))) 2 (λ e. omega arith), ne-eqb (suc (suc (suc (suc (suc k))))) 3 (λ e. omega arith), ne-eqb (suc (suc (suc (suc (suc k))))) 4 (λ e. omega arith))
+    (lit≤ tt)
+
+counts-small : (b : List ℕ) (n : ℕ) → count b 1 n + count b 2 n + count b 3 n + count b 4 n ≤ n
+unfolding count
+counts-small b zero = lit≤ tt
+counts-small b (suc n) = omega (arith, counts-small b n, one-kind (kind b n))
+
+pub counts-held : (b : List ℕ) → Held (countsOf b) b
+unfolding countsOf
+counts-held b = record { all = omega (arith, counts-small b (records b), div-add-mod' (length b) 16) }
+
+-- each question's facts
+module _ (c : Counts) (b : List ℕ) (a : Passed c b) where
+  few : (c .widths ≤ 8) × (c .sizes ≤ 16) × (1 ≤ c .stages) × (c .stages ≤ 4) × (c .segments ≤ 64)
+  unfolding question3
+  few =
+      let w = and-T (inRange 1 8 (c .widths)) _ (a .three) in
+      let s = and-T (inRange 1 16 (c .sizes)) _ (w .1) in
+      let t = and-T (inRange 1 4 (c .stages)) (inRange 1 64 (c .segments)) (s .1) in
+      (in-range 1 8 _ (w .0) .1, in-range 1 16 _ (s .0) .1, in-range 1 4 _ (t .0) .0, in-range 1 4 _ (t .0) .1, in-range 1 64 _ (t .1) .1)
+
+  rows : (k : ℕ) → k < c .widths → (rowResistance b k ≤ 100) × (rowCapacitance b k ≤ 100)
+  unfolding question6
+  rows k h =
+      let t = and-T (every (c .widths) (λ j. inRange 1 100 (rowResistance b j) && inRange 1 100 (rowCapacitance b j))) _ (a .six) .0 in
+      let v = and-T (inRange 1 100 (rowResistance b k)) (inRange 1 100 (rowCapacitance b k)) (every-at (c .widths) _ t k h) in
+      (in-range 1 100 _ (v .0) .1, in-range 1 100 _ (v .1) .1)
+
+  drivers : (k : ℕ) → k < c .sizes → (sizeResistance c b k ≤ 100000) × (sizeGate c b k ≤ 100000) × (sizeOutput c b k ≤ 100000)
+  unfolding question6
+  drivers k h =
+      let t = and-T (every (c .widths) (λ j. inRange 1 100 (rowResistance b j) && inRange 1 100 (rowCapacitance b j))) _ (a .six) .1 in
+      let v = and-T (inRange 1 100000 (sizeResistance c b k)) _ (every-at (c .sizes) _ t k h) in
+      let w = and-T (inRange 1 100000 (sizeGate c b k)) (inRange 0 100000 (sizeOutput c b k)) (v .1) in
+      (in-range 1 100000 _ (v .0) .1, in-range 1 100000 _ (w .0) .1, in-range 0 100000 _ (w .1) .1)
+
+  rows-order : (k : ℕ) → suc k < c .widths → (rowResistance b (suc k) < rowResistance b k) × (rowCapacitance b k < rowCapacitance b (suc k))
+  unfolding question7
+  rows-order k h =
+      let t = and-T (every (c .widths - 1) (λ j. ltb (rowResistance b (suc j)) (rowResistance b j) && ltb (rowCapacitance b j) (rowCapacitance b (suc j)))) _ (a .seven) .0 in
+      let v = and-T (ltb (rowResistance b (suc k)) (rowResistance b k)) (ltb (rowCapacitance b k) (rowCapacitance b (suc k))) (every-at (c .widths - 1) _ t k (omega arith)) in
+      (ltb→lt _ _ (v .0), ltb→lt _ _ (v .1))
+
+  drivers-order : (k : ℕ) → suc k < c .sizes → (sizeResistance c b (suc k) < sizeResistance c b k) × (sizeGate c b k < sizeGate c b (suc k))
+  unfolding question7
+  drivers-order k h =
+      let t = and-T (every (c .widths - 1) (λ j. ltb (rowResistance b (suc j)) (rowResistance b j) && ltb (rowCapacitance b j) (rowCapacitance b (suc j)))) _ (a .seven) .1 in
+      let v = and-T (ltb (sizeResistance c b (suc k)) (sizeResistance c b k)) (ltb (sizeGate c b k) (sizeGate c b (suc k))) (every-at (c .sizes - 1) _ t k (omega arith)) in
+      (ltb→lt _ _ (v .0), ltb→lt _ _ (v .1))
+
+  stage-range : (s : ℕ) → s < c .stages → (stageLowest c b s ≤ stageHighest c b s) × (stageHighest c b s < c .sizes)
+  unfolding question8
+  stage-range s h =
+      let t = and-T (every (c .stages) (λ j. leb (stageLowest c b j) (stageHighest c b j) && ltb (stageHighest c b j) (c .sizes))) _ (a .eight) .0 in
+      let v = and-T (leb (stageLowest c b s) (stageHighest c b s)) (ltb (stageHighest c b s) (c .sizes)) (every-at (c .stages) _ t s h) in
+      (leb→le _ _ (v .0), ltb→lt _ _ (v .1))
+
+  parents : (i : ℕ) → i < c .segments → segmentParent c b i ≤ i
+  unfolding question9
+  parents i h = leb→le _ _ (every-at (c .segments) (λ j. leb (segmentParent c b j) j) (a .nine) i h)
+
+  -- the fields of a segment
+  segment-fields : (i : ℕ) → i < c .segments
+      → (segmentSink c b i ≤ 1) × (segmentLength c b i ≤ 1000) × (sinkCapacitance c b i ≤ 100000) × (sinkWeight c b i ≤ 255)
+      × (segmentLowest c b i ≤ segmentHighest c b i) × (segmentHighest c b i < c .widths)
+  unfolding question10
+  segment-fields i h =
+      let t1 = and-T (inRange 0 1 (segmentSink c b i)) _ (every-at (c .segments) _ (a .ten) i h) in
+      let t2 = and-T (inRange 1 1000 (segmentLength c b i)) _ (t1 .1) in
+      let t3 = and-T (inRange 0 100000 (sinkCapacitance c b i)) _ (t2 .1) in
+      let t4 = and-T (inRange 0 255 (sinkWeight c b i)) _ (t3 .1) in
+      let t5 = and-T (sinkOrZero c b i) _ (t4 .1) in
+      let t6 = and-T (leb (segmentLowest c b i) (segmentHighest c b i)) (ltb (segmentHighest c b i) (c .widths)) (t5 .1) in (
+        in-range 0 1 _ (t1 .0) .1,
+        in-range 1 1000 _ (t2 .0) .1,
+        in-range 0 100000 _ (t3 .0) .1,
+        in-range 0 255 _ (t4 .0) .1,
+        leb→le _ _ (t6 .0),
+        ltb→lt _ _ (t6 .1),
+      )
+
+-- A place's range is a stage's or a segment's.
+module _ (c : Counts) (b : List ℕ) where
+  pub stage-lowest : (s : ℕ) → s < c .stages → netBy c b .lowest s ≡ stageLowest c b s
+  stage-lowest s h = rw (lt-ltb s (c .stages) h)
+
+  pub stage-highest : (s : ℕ) → s < c .stages → netBy c b .highest s ≡ stageHighest c b s
+  stage-highest s h = rw (lt-ltb s (c .stages) h)
+
+  pub segment-lowest : (i : ℕ) → netBy c b .lowest (c .stages + i) ≡ segmentLowest c b i
+  segment-lowest i = let h : c .stages ≤ c .stages + i = omega arith in rw (le-ltb (c .stages + i) (c .stages) h)
+
+  pub segment-highest : (i : ℕ) → netBy c b .highest (c .stages + i) ≡ segmentHighest c b i
+  segment-highest i = let h : c .stages ≤ c .stages + i = omega arith in rw (le-ltb (c .stages + i) (c .stages) h)
+
+  -- a place is a stage, or a segment
+  pub place-cases : (P : ℕ → Type 0) → ((s : ℕ) → s < c .stages → P s) → ((i : ℕ) → i < c .segments → P (c .stages + i)) → (p : ℕ) → p < placesBy c → P p
+  place-cases P f g p h = go (decLe (suc p) (c .stages))
+    where
+      go : Dec (suc p ≤ c .stages) → P p
+      go (yes l) = f p l
+      go (no l) =
+          let m : c .stages ≤ p = omega arith in
+          let d = le-dest m in
+          rw (d .1) at (g (d .0) (omega (arith, d .1)))
+
+-- All facts at once.
+pub checked-by : (c : Counts) (b : List ℕ) → c ≡ countsOf b → Held c b → Passed c b → Checked c b
+checked-by c b e h a =
+    record {
+      counted = e;
+      held = h;
+      fewWidths = few c b a .0;
+      fewSizes = few c b a .1;
+      someStage = few c b a .2;
+      fewStages = few c b a .3;
+      fewSegments = few c b a .4;
+      rows = rows c b a;
+      drivers = drivers c b a;
+      rowsOrder = rows-order c b a;
+      driversOrder = drivers-order c b a;
+      ranges = place-cases c b (λ p. netBy c b .lowest p ≤ netBy c b .highest p)
+          (λ s l. rw (stage-lowest c b s l, stage-highest c b s l) (stage-range c b a s l .0))
+          (λ i l. rw (segment-lowest c b i, segment-highest c b i) (segment-fields c b a i l .4));
+      sized = λ s l. rw (stage-highest c b s l) (stage-range c b a s l .1);
+      wired = λ i l. rw (segment-highest c b i) (segment-fields c b a i l .5);
+      parents = parents c b a;
+      lengths = λ i l. segment-fields c b a i l .1;
+      sinks = λ i l. segment-fields c b a i l .2;
+      weights = λ i l. segment-fields c b a i l .3;
+    }
+
+pub checked : (b : List ℕ) → refusal b ≡ 0 → Checked (countsOf b) b
+checked b e = checked-by (countsOf b) b refl (counts-held b) (passed b e)
+
+module _ {c : Counts} {b : List ℕ} (k : Checked c b) where
+  -- the rows of the widths times a length
+  rows-fall : (l h m : ℕ) → h < c .widths → Falls l h (λ w. rowResistance b w * m)
+  rows-fall l h m n = falls-steps l h (λ w. rowResistance b w * m) (λ w i j. let o = k .rowsOrder w (omega arith) in mul-le-mul-right m (omega arith))
+
+  rows-rise : (l h m : ℕ) → h < c .widths → Rises l h (λ w. rowCapacitance b w * m)
+  rows-rise l h m n = rises-steps l h (λ w. rowCapacitance b w * m) (λ w i j. let o = k .rowsOrder w (omega arith) in mul-le-mul-right m (omega arith))
+
+  pub ordered : Ordered (netBy c b)
+  ordered =
+      record {
+        parents = k .parents;
+        drivers = λ s h. let n = k .sized s h in falls-steps _ _ (sizeResistance c b) (λ z i j. let o = k .driversOrder z (omega arith) in omega arith);
+        gates = λ s h. let n = k .sized s h in rises-steps _ _ (sizeGate c b) (λ z i j. let o = k .driversOrder z (omega arith) in omega arith);
+        resistances = λ i h. rows-fall _ _ _ (k .wired i h);
+        capacitances = λ i h. rows-rise _ _ _ (k .wired i h);
+      }
+
+  pub limited : Limited (netBy c b)
+  limited =
+      record {
+        stages = k .fewStages;
+        segments = k .fewSegments;
+        weights = k .weights;
+        sinks = k .sinks;
+        resistances = λ i w h n. mul-le-mul (k .rows w (omega (arith, k .wired i h)) .0) (k .lengths i h);
+        capacitances = λ i w h n. mul-le-mul (k .rows w (omega (arith, k .wired i h)) .1) (k .lengths i h);
+        drivers = λ s z h n. k .drivers z (omega (arith, k .sized s h)) .0;
+        gates = λ s z h n. k .drivers z (omega (arith, k .sized s h)) .1;
+        outputs = λ s z h n. k .drivers z (omega (arith, k .sized s h)) .2;
+      }
+
+  module _ {x : List ℕ} (a : InRanges (netBy c b) x) where
+    -- an index in its range is one of its table
+    pub width-held : (i : ℕ) → i < c .segments → at x (c .stages + i) < c .widths
+    width-held i l = omega (arith, k .wired i l, a .high (c .stages + i) (omega arith))
+
+    pub size-held : (s : ℕ) → s < c .stages → at x s < c .sizes
+    size-held s l = omega (arith, k .sized s l, a .high s (omega arith))
+
+-- An allowed sizing is one whose indices are in their ranges.
+pub allowed-iff : (net : Net) (x : List ℕ) → Allowed (allowed net) x ↔ Boxed (places net) (net .lowest) (net .highest) x
+unfolding within
+allowed-iff net x =
+    let i = inBox-iff (places net) (net .lowest) (net .highest) x in (
+      λ t. i .0 (and-T (inBox (places net) (net .lowest) (net .highest) x) true t .0),
+      λ y. T-and (inBox (places net) (net .lowest) (net .highest) x) true (i .1 y) tt,
+    )
+
+pub allowed-ranges : (net : Net) (x : List ℕ) → Allowed (allowed net) x → InRanges net x
+allowed-ranges net x t = let y = allowed-iff net x .0 t in record { long = omega (arith, y .long); low = y .low; high = y .high }
+
+-- The lowest index at each place: an allowed sizing of every job that passes.
+unfoldable pub lowestSizing : Net → List ℕ
+lowestSizing net = tabulate (places net) (net .lowest)
+
+module _ (b : List ℕ) (e : refusal b ≡ 0) where
+  -- the instance of the theory: the allowed sizings are closed (`allowed-lattice`) and not empty, and the delay is submodular on them
+  pub job-allowed : Allowed (allowed (netOf b)) (lowestSizing (netOf b))
+  unfolding lowestSizing
+  job-allowed =
+      let n = places (netOf b) in
+      let f = netOf b .lowest in
+      allowed-iff (netOf b) (tabulate n f) .1
+      record {
+        long = length-tabulate n f;
+        low = λ p h. rw (at-tabulate n f p h) (omega arith);
+        high = λ p h. rw (at-tabulate n f p h) (checked b e .ranges p h);
+      }
+
+  pub job-submodular : Submodular (allowed (netOf b)) (delay (netOf b))
+  job-submodular = delay-submodular (netOf b) (ordered (checked b e))
+
+  -- every scaled delay is below 2 ^ 63
+  pub job-fits : (x : List ℕ) → Allowed (allowed (netOf b)) x → delay (netOf b) x < 2 ^ 63
+  job-fits x a = delay-fits (netOf b) (ordered (checked b e)) (limited (checked b e)) x (allowed-ranges (netOf b) x a)

@@ -1,0 +1,69 @@
+-- What the contracts of inner functions ask: the facts that a job's passed questions give. `proofs/Questions` shows that every job that passes
+-- questions 1 to 11 has them; no public operation asks them of its caller.
+use mathlib.Core.Path.{_≡_}
+use mathlib.Core.List.{List}
+use Prim.Native.Nat.{ℕ, suc, _+_, _*_, _≤_, _<_}
+use lib.ListN.{length}
+use Rattle.lattice.specs.Lists.{at}
+use Rattle.lattice.specs.Space.{Falls, Rises}
+use Rattle.net.specs.declared.Counts.{Counts}
+use Rattle.net.specs.Job.{countsOf, placesBy, rowResistance, rowCapacitance, sizeResistance, sizeGate, sizeOutput, segmentLength}
+use Rattle.net.specs.Net.{Net, places, netBy}
+
+-- The records that are counted are there.
+pub record Held (c : Counts) (b : List ℕ) : Type 0 where
+  pub all : 16 * (c .widths + c .sizes + c .stages + c .segments) ≤ length b
+
+-- What questions 1 to 10 give, with the counts of the job's records.
+pub record Checked (c : Counts) (b : List ℕ) : Type 0 where
+  -- 1 to 3
+  pub counted : c ≡ countsOf b
+  pub held : Held c b
+  pub fewWidths : c .widths ≤ 8
+  pub fewSizes : c .sizes ≤ 16
+  pub someStage : 1 ≤ c .stages
+  pub fewStages : c .stages ≤ 4
+  pub fewSegments : c .segments ≤ 64
+  -- 6
+  pub rows : (k : ℕ) → k < c .widths → (rowResistance b k ≤ 100) × (rowCapacitance b k ≤ 100)
+  pub drivers : (k : ℕ) → k < c .sizes → (sizeResistance c b k ≤ 100000) × (sizeGate c b k ≤ 100000) × (sizeOutput c b k ≤ 100000)
+  -- 7
+  pub rowsOrder : (k : ℕ) → suc k < c .widths → (rowResistance b (suc k) < rowResistance b k) × (rowCapacitance b k < rowCapacitance b (suc k))
+  pub driversOrder : (k : ℕ) → suc k < c .sizes → (sizeResistance c b (suc k) < sizeResistance c b k) × (sizeGate c b k < sizeGate c b (suc k))
+  -- 8 and 10: each range is not empty and of its table
+  pub ranges : (p : ℕ) → p < placesBy c → netBy c b .lowest p ≤ netBy c b .highest p
+  pub sized : (s : ℕ) → s < c .stages → netBy c b .highest s < c .sizes
+  pub wired : (i : ℕ) → i < c .segments → netBy c b .highest (c .stages + i) < c .widths
+  -- 9
+  pub parents : (i : ℕ) → i < c .segments → netBy c b .parent i ≤ i
+  -- 10
+  pub lengths : (i : ℕ) → i < c .segments → segmentLength c b i ≤ 1000
+  pub sinks : (i : ℕ) → i < c .segments → netBy c b .sink i ≤ 100000
+  pub weights : (i : ℕ) → i < c .segments → netBy c b .weight i ≤ 255
+
+-- A sizing, with what may stand behind it, has at each place an index in the place's range.
+pub record InRanges (net : Net) (x : List ℕ) : Type 0 where
+  pub long : places net ≤ length x
+  pub low : (p : ℕ) → p < places net → net .lowest p ≤ at x p
+  pub high : (p : ℕ) → p < places net → at x p ≤ net .highest p
+
+-- Segments are numbered after what they hang from, and over each place's range resistance falls and gate and wire capacitance rise.
+-- Of output capacitance no order is asked.
+pub record Ordered (net : Net) : Type 0 where
+  pub parents : (i : ℕ) → i < net .segments → net .parent i ≤ i
+  pub drivers : (s : ℕ) → s < net .stages → Falls (net .lowest s) (net .highest s) (net .driverResistance)
+  pub gates : (s : ℕ) → s < net .stages → Rises (net .lowest s) (net .highest s) (net .gate)
+  pub resistances : (i : ℕ) → i < net .segments → Falls (net .lowest (net .stages + i)) (net .highest (net .stages + i)) (net .wireResistance i)
+  pub capacitances : (i : ℕ) → i < net .segments → Rises (net .lowest (net .stages + i)) (net .highest (net .stages + i)) (net .wireCapacitance i)
+
+-- The limits of the specification: on the counts, on what a segment has at each of its widths, and on what a stage has at each of its sizes.
+pub record Limited (net : Net) : Type 0 where
+  pub stages : net .stages ≤ 4
+  pub segments : net .segments ≤ 64
+  pub weights : (i : ℕ) → i < net .segments → net .weight i ≤ 255
+  pub sinks : (i : ℕ) → i < net .segments → net .sink i ≤ 100000
+  pub resistances : (i k : ℕ) → i < net .segments → k ≤ net .highest (net .stages + i) → net .wireResistance i k ≤ 100000
+  pub capacitances : (i k : ℕ) → i < net .segments → k ≤ net .highest (net .stages + i) → net .wireCapacitance i k ≤ 100000
+  pub drivers : (s k : ℕ) → s < net .stages → k ≤ net .highest s → net .driverResistance k ≤ 100000
+  pub gates : (s k : ℕ) → s < net .stages → k ≤ net .highest s → net .gate k ≤ 100000
+  pub outputs : (s k : ℕ) → s < net .stages → k ≤ net .highest s → net .output k ≤ 100000

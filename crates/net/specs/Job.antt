@@ -1,0 +1,105 @@
+-- What the bytes of a job say, record by record: the section 'Job records' of the specification.
+use mathlib.Core.Bool.{cond}
+use mathlib.Core.List.{List}
+use Prim.Native.Nat.{ℕ, zero, suc, _+_, _*_, _/_}
+use lib.Dec.{eqb}
+use lib.ListN.{length, getD}
+use Rattle.net.specs.declared.Counts.{Counts}
+
+-- One byte of a job; past its end, 0.
+abbrev pub byte : List ℕ → ℕ → ℕ
+byte b at = getD b at 0
+
+-- Four bytes, the lowest first.
+abbrev pub word : List ℕ → ℕ → ℕ
+word b at = byte b at + 256 * byte b (at + 1) + 65536 * byte b (at + 2) + 16777216 * byte b (at + 3)
+
+-- How many whole records a job has, of sixteen bytes each.
+abbrev pub records : List ℕ → ℕ
+records b = _/_ (length b) 16
+
+-- The kind of record r: 1 a width, 2 a driver size, 3 a stage, 4 a segment.
+abbrev pub kind : List ℕ → ℕ → ℕ
+kind b r = byte b (16 * r)
+
+-- How many of the first n records are of the kind k.
+unfoldable pub count : List ℕ → ℕ → ℕ → ℕ
+count b k zero = 0
+count b k (suc n) = cond (eqb (kind b n) k) 1 0 + count b k n
+
+-- How many records of each kind a job has.
+unfoldable pub countsOf : List ℕ → Counts
+countsOf b =
+    record {
+      widths = count b 1 (records b);
+      sizes = count b 2 (records b);
+      stages = count b 3 (records b);
+      segments = count b 4 (records b);
+    }
+
+-- How many places there are. A place, a term of the specification, is a stage or a segment: stages first, then segments.
+abbrev pub placesBy : Counts → ℕ
+placesBy c = c .stages + c .segments
+
+-- Where a record starts, in a job whose records stand kind after kind.
+abbrev pub widthAt : ℕ → ℕ
+widthAt k = 16 * k
+
+abbrev pub sizeAt : Counts → ℕ → ℕ
+sizeAt c k = 16 * (c .widths + k)
+
+abbrev pub placeAt : Counts → ℕ → ℕ
+placeAt c p = 16 * (c .widths + c .sizes + p)
+
+abbrev pub stageAt : Counts → ℕ → ℕ
+stageAt c s = placeAt c s
+
+abbrev pub segmentAt : Counts → ℕ → ℕ
+segmentAt c i = placeAt c (c .stages + i)
+
+-- The fields of width k.
+abbrev pub rowResistance : List ℕ → ℕ → ℕ
+rowResistance b k = word b (widthAt k + 4)
+
+abbrev pub rowCapacitance : List ℕ → ℕ → ℕ
+rowCapacitance b k = word b (widthAt k + 8)
+
+module _ (c : Counts) (b : List ℕ) where
+  -- The fields of driver size k.
+  abbrev pub sizeResistance : ℕ → ℕ
+  sizeResistance k = word b (sizeAt c k + 4)
+
+  abbrev pub sizeGate : ℕ → ℕ
+  sizeGate k = word b (sizeAt c k + 8)
+
+  abbrev pub sizeOutput : ℕ → ℕ
+  sizeOutput k = word b (sizeAt c k + 12)
+
+  -- The fields of stage s.
+  abbrev pub stageLowest : ℕ → ℕ
+  stageLowest s = byte b (stageAt c s + 2)
+
+  abbrev pub stageHighest : ℕ → ℕ
+  stageHighest s = byte b (stageAt c s + 3)
+
+  -- The fields of segment i.
+  abbrev pub segmentParent : ℕ → ℕ
+  segmentParent i = byte b (segmentAt c i + 2)
+
+  abbrev pub segmentSink : ℕ → ℕ
+  segmentSink i = byte b (segmentAt c i + 3)
+
+  abbrev pub segmentLength : ℕ → ℕ
+  segmentLength i = word b (segmentAt c i + 4)
+
+  abbrev pub sinkCapacitance : ℕ → ℕ
+  sinkCapacitance i = word b (segmentAt c i + 8)
+
+  abbrev pub sinkWeight : ℕ → ℕ
+  sinkWeight i = byte b (segmentAt c i + 12)
+
+  abbrev pub segmentLowest : ℕ → ℕ
+  segmentLowest i = byte b (segmentAt c i + 13)
+
+  abbrev pub segmentHighest : ℕ → ℕ
+  segmentHighest i = byte b (segmentAt c i + 14)

@@ -1,0 +1,9 @@
+pub mod Job
+pub mod Questions
+pub mod Net
+pub mod Delay
+pub mod Sizings
+pub mod Answers
+pub mod Starred
+pub mod Segments
+pub mod Checked

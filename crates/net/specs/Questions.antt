@@ -1,0 +1,125 @@
+-- The questions 1 to 11, each asked of the whole job, and the first whose answer is no: the section 'The questions' of the specification.
+-- From question 4 on, `c` is the counts of the job's records by kind.
+use mathlib.Core.Bool.{Bool, cond, not, _&&_, _||_}
+use mathlib.Core.List.{List, [], _∷_}
+use Prim.Native.Nat.{ℕ, suc, _+_, _-_, _%_}
+use lib.Dec.{leb, ltb, eqb}
+use lib.ListN.{length}
+use Rattle.lattice.specs.Lists.{every, some}
+use Rattle.net.specs.declared.Counts.{Counts}
+use Rattle.net.specs.Job.{byte, records, kind, countsOf, widthAt, sizeAt, stageAt, segmentAt, rowResistance, rowCapacitance, sizeResistance, sizeGate, sizeOutput, stageLowest, stageHighest, segmentParent, segmentSink, segmentLength, sinkCapacitance, sinkWeight, segmentLowest, segmentHighest}
+
+-- Is v from l to h, both included?
+abbrev pub inRange : ℕ → ℕ → ℕ → Bool
+inRange l h v = leb l v && leb v h
+
+-- 1. Is the length above 0 and a multiple of 16?
+unfoldable pub question1 : List ℕ → Bool
+question1 b = ltb 0 (length b) && eqb (_%_ (length b) 16) 0
+
+-- 2. Is every kind 1 to 4, never falling?
+unfoldable pub question2 : List ℕ → Bool
+question2 b = every (records b) (λ r. inRange 1 4 (kind b r)) && every (records b - 1) (λ r. leb (kind b r) (kind b (suc r)))
+
+-- 3. Is each kind's count in its range?
+unfoldable pub question3 : Counts → Bool
+question3 c = inRange 1 8 (c .widths) && (inRange 1 16 (c .sizes) && (inRange 1 4 (c .stages) && inRange 1 64 (c .segments)))
+
+module _ (c : Counts) (b : List ℕ) where
+  -- 4. Do numbers count from 0 in each kind?
+  unfoldable pub question4 : Bool
+  question4 =
+      every (c .widths) (λ k. eqb (byte b (widthAt k + 1)) k)
+      && (every (c .sizes) (λ k. eqb (byte b (sizeAt c k + 1)) k)
+      && (every (c .stages) (λ s. eqb (byte b (stageAt c s + 1)) s)
+      && every (c .segments) (λ i. eqb (byte b (segmentAt c i + 1)) i)))
+
+  -- Are the n bytes from `at` on zero?
+  unfoldable pub zeros : ℕ → ℕ → Bool
+  zeros at n = every n (λ i. eqb (byte b (at + i)) 0)
+
+  -- Are sink capacitance and weight of segment i zero if its sink byte is 0?
+  unfoldable pub sinkOrZero : ℕ → Bool
+  sinkOrZero i = not (eqb (segmentSink c b i) 0) || (eqb (sinkCapacitance c b i) 0 && eqb (sinkWeight c b i) 0)
+
+  -- 5. Are all unnamed bytes zero, and the sink capacitance and weight of every segment whose sink byte is 0?
+  unfoldable pub question5 : Bool
+  question5 =
+      every (c .widths) (λ k. zeros (widthAt k + 2) 2 && zeros (widthAt k + 12) 4)
+      && (every (c .sizes) (λ k. zeros (sizeAt c k + 2) 2)
+      && (every (c .stages) (λ s. zeros (stageAt c s + 4) 12)
+      && every (c .segments) (λ i. zeros (segmentAt c i + 15) 1 && sinkOrZero i)))
+
+  -- 6. Are the values of kinds 1 and 2 in range?
+  unfoldable pub question6 : Bool
+  question6 =
+      every (c .widths) (λ k. inRange 1 100 (rowResistance b k) && inRange 1 100 (rowCapacitance b k))
+      && every (c .sizes)
+      (λ k. inRange 1 100000 (sizeResistance c b k) && (inRange 1 100000 (sizeGate c b k) && inRange 0 100000 (sizeOutput c b k)))
+
+  -- 7. In each of the two tables, does resistance strictly fall, and do width capacitance and gate capacitance strictly rise?
+  unfoldable pub question7 : Bool
+  question7 =
+      every (c .widths - 1)
+      (λ k. ltb (rowResistance b (suc k)) (rowResistance b k) && ltb (rowCapacitance b k) (rowCapacitance b (suc k)))
+      && every (c .sizes - 1)
+      (λ k. ltb (sizeResistance c b (suc k)) (sizeResistance c b k) && ltb (sizeGate c b k) (sizeGate c b (suc k)))
+
+  -- 8. Is every stage's lowest ≤ highest < count of sizes, with both equal for stage 0?
+  unfoldable pub question8 : Bool
+  question8 =
+      every (c .stages) (λ s. leb (stageLowest c b s) (stageHighest c b s) && ltb (stageHighest c b s) (c .sizes))
+      && eqb (stageLowest c b 0) (stageHighest c b 0)
+
+  -- 9. Is each parent byte at most the segment's own number?
+  unfoldable pub question9 : Bool
+  question9 = every (c .segments) (λ i. leb (segmentParent c b i) i)
+
+  -- 10. Are segment fields in range, capacitance and weight 0 where there is no sink, and lowest ≤ highest < count of widths?
+  unfoldable pub question10 : Bool
+  question10 =
+      every (c .segments)
+      (λ i. inRange 0 1 (segmentSink c b i)
+      && (inRange 1 1000 (segmentLength c b i)
+      && (inRange 0 100000 (sinkCapacitance c b i)
+      && (inRange 0 255 (sinkWeight c b i)
+      && (sinkOrZero i && (leb (segmentLowest c b i) (segmentHighest c b i) && ltb (segmentHighest c b i) (c .widths)))))))
+
+  -- 11. Has every segment without branches a sink?
+  unfoldable pub question11 : Bool
+  question11 =
+      every (c .segments) (λ i. not (eqb (segmentSink c b i) 0) || some (c .segments) (λ j. eqb (segmentParent c b j) (suc i)))
+
+-- A question's number, and whether its answer is yes.
+pub record Question : Type 0 where
+  pub number : ℕ
+  pub passed : Bool
+
+-- The number of the first question whose answer is no; 0 where every answer is yes.
+unfoldable pub firstNo : List Question → ℕ
+firstNo [] = 0
+firstNo (q ∷ qs) = cond (q .passed) (firstNo qs) (q .number)
+
+abbrev pub ask : ℕ → Bool → Question
+ask n answer = record { number = n; passed = answer }
+
+-- The questions that every operation asks first.
+unfoldable pub jobQuestions : List ℕ → List Question
+jobQuestions b =
+    let c : Counts = countsOf b in
+    ask 1 (question1 b)
+    ∷ ask 2 (question2 b)
+    ∷ ask 3 (question3 c)
+    ∷ ask 4 (question4 c b)
+    ∷ ask 5 (question5 c b)
+    ∷ ask 6 (question6 c b)
+    ∷ ask 7 (question7 c b)
+    ∷ ask 8 (question8 c b)
+    ∷ ask 9 (question9 c b)
+    ∷ ask 10 (question10 c b)
+    ∷ ask 11 (question11 c b)
+    ∷ []
+
+-- The number of the first of them that a job fails; 0 where it passes all.
+unfoldable pub refusal : List ℕ → ℕ
+refusal b = firstNo (jobQuestions b)
