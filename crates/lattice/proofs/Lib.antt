@@ -5,5 +5,6 @@ pub mod Sums
 pub mod Leasts
 pub mod Refining
 pub mod Theorems
+pub mod Searching
 pub mod Scan
 pub mod Example

@@ -3,3 +3,4 @@ pub mod Lists
 pub mod Space
 pub mod Least
 pub mod Refine
+pub mod Search

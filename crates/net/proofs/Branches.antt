@@ -13,7 +13,7 @@ use Rattle.net.proofs.Sum.{sum-same}
 use Rattle.net.proofs.Forest.{forest-none, forest-from}
 
 -- what is taken only where b holds need be the same only there
-cond-same : (b : Bool) (x y : ℕ) → (b ≡ true → x ≡ y) → cond b x 0 ≡ cond b y 0
+pub cond-same : (b : Bool) (x y : ℕ) → (b ≡ true → x ≡ y) → cond b x 0 ≡ cond b y 0
 cond-same true x y h = h refl
 cond-same false x y h = refl
 

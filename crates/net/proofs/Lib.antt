@@ -4,6 +4,8 @@ pub mod Branches
 pub mod Exchange
 pub mod Dominance
 pub mod Bound
+pub mod Places
 pub mod Questions
+pub mod Answers
 pub mod Demands
 pub mod Starred

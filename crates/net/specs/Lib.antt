@@ -6,4 +6,5 @@ pub mod Sizings
 pub mod Answers
 pub mod Starred
 pub mod Segments
+pub mod Places
 pub mod Checked

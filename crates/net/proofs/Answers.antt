@@ -1,0 +1,102 @@
+-- The answers by cases: a refusal of the job is every operation's refusal, and past it the operation's own questions decide.
+use mathlib.Core.Path.{_≡_, refl, ap, _∙_}
+use mathlib.Core.Bool.{Bool, true, false, cond, _&&_}
+use mathlib.Core.List.{List, [], _∷_, _++_}
+use Prim.Native.Nat.{ℕ, suc, _≤_, _<_}
+use native.Mathlib.Omega.{arith}
+use borrow.Author.Tests.{ne-eqb, le-leb, lt-leb, lt-ltb, le-ltb}
+use lib.Dec.{T, eqb, lit≤}
+use lib.ListN.{length}
+use Rattle.lattice.specs.Side.{Side}
+use Rattle.lattice.specs.Refine.{best}
+use Rattle.net.specs.Net.{netOf, places}
+use Rattle.net.specs.Delay.{delay, loadFigure}
+use Rattle.net.specs.Sizings.{allowed}
+use Rattle.net.specs.Questions.{Question, ask, firstNo, jobQuestions, refusal}
+use Rattle.net.specs.Answers.{question15, question16, question17, sizingIn, Measured, measureNumber, measured, Refined, refineNumber, refined, chooseNumber, firstChosen, chosen}
+
+-- every question has a number above 0
+Numbered : List Question → Type 0
+Numbered [] = Unit {0}
+Numbered (q ∷ qs) = (1 ≤ q .number) × Numbered qs
+
+firstNo-pass : (xs ys : List Question) → Numbered xs → firstNo xs ≡ 0 → firstNo (xs ++ ys) ≡ firstNo ys
+unfolding firstNo Numbered
+firstNo-pass [] ys a e = refl
+firstNo-pass (q ∷ xs) ys a e = go (q .passed) e (λ f. firstNo-pass xs ys (a .1) f)
+  where
+    go : (b : Bool) → cond b (firstNo xs) (q .number) ≡ 0 → (firstNo xs ≡ 0 → firstNo (xs ++ ys) ≡ firstNo ys) → cond b (firstNo (xs ++ ys)) (q .number) ≡ firstNo ys
+    go true f rest = rest f
+    go false f rest = absurd (omega (arith, a .0))
+
+firstNo-stop : (xs ys : List Question) → (firstNo xs ≡ 0 → ⊥) → firstNo (xs ++ ys) ≡ firstNo xs
+unfolding firstNo
+firstNo-stop [] ys n = absurd (n refl)
+firstNo-stop (q ∷ xs) ys n = go (q .passed) n (λ f. firstNo-stop xs ys f)
+  where
+    go : (b : Bool) → (cond b (firstNo xs) (q .number) ≡ 0 → ⊥) → ((firstNo xs ≡ 0 → ⊥) → firstNo (xs ++ ys) ≡ firstNo xs)
+        → cond b (firstNo (xs ++ ys)) (q .number) ≡ cond b (firstNo xs) (q .number)
+    go true f rest = rest f
+    go false f rest = refl
+
+pub firstNo-yes : (n : ℕ) (qs : List Question) (b : Bool) → b ≡ true → firstNo (ask n b ∷ qs) ≡ firstNo qs
+unfolding firstNo
+firstNo-yes n qs b e = rw e
+
+pub firstNo-no : (n : ℕ) (qs : List Question) (b : Bool) → b ≡ false → firstNo (ask n b ∷ qs) ≡ n
+unfolding firstNo
+firstNo-no n qs b e = rw e
+
+jobQuestions-numbered : (job : List ℕ) → Numbered (jobQuestions job)
+unfolding jobQuestions Numbered
+jobQuestions-numbered job = (lit≤ tt, (lit≤ tt, (lit≤ tt, (lit≤ tt, (lit≤ tt, (lit≤ tt, (lit≤ tt, (lit≤ tt, (lit≤ tt, (lit≤ tt, (lit≤ tt, tt)))))))))))
+
+module _ (job : List ℕ) (ys : List Question) where
+  -- a job that passes is asked the operation's questions
+  pub job-passes : refusal job ≡ 0 → firstNo (jobQuestions job ++ ys) ≡ firstNo ys
+  unfolding refusal
+  job-passes e = firstNo-pass (jobQuestions job) ys (jobQuestions-numbered job) e
+
+  -- a job that fails is refused by every operation
+  pub job-fails : (refusal job ≡ 0 → ⊥) → firstNo (jobQuestions job ++ ys) ≡ refusal job
+  unfolding refusal
+  job-fails n = firstNo-stop (jobQuestions job) ys n
+
+-- The questions of a sizing, 15 and 16.
+abbrev pub sizingQuestions : List ℕ → List ℕ → List Question
+sizingQuestions job x = ask 15 (question15 (netOf job) x) ∷ ask 16 (question16 (netOf job) x) ∷ []
+
+module _ (job x : List ℕ) where
+  pub measured-refused : (n : ℕ) → measureNumber job x ≡ n → (n ≡ 0 → ⊥) → measured job x ≡ record { number = n; delay = 0; load = 0 }
+  unfolding measured
+  measured-refused n e z = rw (ne-eqb (measureNumber job x) 0 (λ f. z (omega arith)), e)
+
+  pub measured-answered : measureNumber job x ≡ 0
+      → measured job x ≡ record { number = 0; delay = delay (netOf job) (sizingIn (netOf job) x); load = loadFigure (netOf job) (sizingIn (netOf job) x) }
+  unfolding measured
+  measured-answered e = rw e
+
+  module _ (p : ℕ) (side : Side) where
+    pub refined-refused : (n : ℕ) → refineNumber job x p ≡ n → (n ≡ 0 → ⊥) → refined job x p side ≡ record { number = n; index = 0 }
+    unfolding refined
+    refined-refused n e z = rw (ne-eqb (refineNumber job x p) 0 (λ f. z (omega arith)), e)
+
+    pub refined-answered : refineNumber job x p ≡ 0
+        → refined job x p side ≡ record { number = 0; index = best side (allowed (netOf job)) (delay (netOf job)) (sizingIn (netOf job) x) p }
+    unfolding refined
+    refined-answered e = rw e
+
+module _ (job x y : List ℕ) where
+  pub chosen-refused : (chooseNumber job x y ≡ 0 → ⊥) → chosen job x y ≡ []
+  unfolding chosen
+  chosen-refused z = rw (ne-eqb (chooseNumber job x y) 0 z)
+
+  pub chosen-first : chooseNumber job x y ≡ 0 → delay (netOf job) (sizingIn (netOf job) x) ≤ delay (netOf job) (sizingIn (netOf job) y)
+      → chosen job x y ≡ sizingIn (netOf job) x
+  unfolding chosen firstChosen
+  chosen-first e h = rw (e, le-leb _ _ h)
+
+  pub chosen-second : chooseNumber job x y ≡ 0 → delay (netOf job) (sizingIn (netOf job) y) < delay (netOf job) (sizingIn (netOf job) x)
+      → chosen job x y ≡ sizingIn (netOf job) y
+  unfolding chosen firstChosen
+  chosen-second e h = rw (e, lt-leb _ _ h)

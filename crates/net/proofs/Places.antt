@@ -1,0 +1,162 @@
+-- The delay place by place: it adds up to the scaled delay, and what a place adds depends on the places from it on alone.
+use mathlib.Core.Path.{_≡_, refl, sym, ap, _∙_}
+use mathlib.Core.Bool.{Bool, true, false, cond}
+use mathlib.Core.List.{List}
+use Prim.Native.Nat.{ℕ, zero, suc, _+_, _*_, _-_, _≤_, _<_}
+use native.Mathlib.Nat.{add-zero, zero-add}
+use native.Mathlib.Omega.{arith}
+use borrow.Author.Tests.{lt-ltb, le-ltb, eqb-true, eqb-false, ltb-true, ltb-false}
+use lib.Dec.{eqb, ltb}
+use Rattle.lattice.specs.Lists.{at, sum}
+use Rattle.net.specs.Net.{Net, places}
+use Rattle.net.specs.Delay.{branchesTo, branches, branch, resistance, capacitance, ownLoad, branchLoad, branchesLoad, loadUnder, stageLoad, stageDelay, stagesDelay, segmentDelay, delay}
+use Rattle.net.specs.Segments.{weightBelow, totalWeight, ownDelay}
+use Rattle.net.specs.Places.{sumFrom, placeWeight, drivenLoad, delayAt, placeDelay, placeLoad, delayFrom}
+use Rattle.net.proofs.Sum.{sum-same, sum-scale}
+use Rattle.net.proofs.Branches.{cond-same}
+use Rattle.net.proofs.Exchange.{delay-exchange}
+
+-- sums from a place on
+sumFrom-same : (p d : ℕ) (f g : ℕ → ℕ) → ((q : ℕ) → p ≤ q → q < p + d → f q ≡ g q) → sumFrom p d f ≡ sumFrom p d g
+unfolding sumFrom
+sumFrom-same p zero f g e = refl
+sumFrom-same p (suc d) f g e = let h = sumFrom-same (suc p) d f g (λ q l m. e q (omega arith) (omega arith)) in let k = e p (omega arith) (omega arith) in omega arith
+
+sumFrom-sum : (p d : ℕ) (f : ℕ → ℕ) → sum p f + sumFrom p d f ≡ sum (p + d) f
+unfolding sumFrom sum
+sumFrom-sum p zero f = rw (add-zero p) (add-zero (sum p f))
+sumFrom-sum p (suc d) f =
+    let h = sumFrom-sum (suc p) d f in
+    let e : suc p + d ≡ p + suc d = omega arith in
+    let k : sum (suc p + d) f ≡ sum (p + suc d) f = ap (λ (n : ℕ). sum n f) e in
+    omega arith
+
+-- the terms from n on, each by its distance
+sum-split : (n m : ℕ) (f : ℕ → ℕ) → sum (n + m) f ≡ sum n f + sum m (λ i. f (n + i))
+unfolding sum
+sum-split n zero f = rw (add-zero n) (sym (add-zero (sum n f)))
+sum-split n (suc m) f =
+    let h = sum-split n m f in
+    let e : n + suc m ≡ suc (n + m) = omega arith in
+    rw e (omega arith)
+
+-- The parts of a place are a stage's or a segment's.
+module _ (net : Net) (x : List ℕ) where
+  pub stage-place : (s : ℕ) → s < net .stages → placeDelay net x s ≡ 2 * totalWeight net * stageDelay net x s
+  unfolding placeWeight delayAt drivenLoad
+  stage-place s h = rw (lt-ltb s (net .stages) h)
+
+  pub segment-place : (i : ℕ) → placeDelay net x (net .stages + i) ≡ ownDelay net x i
+  unfolding placeWeight delayAt drivenLoad segmentDelay
+  segment-place i =
+      let h : net .stages ≤ net .stages + i = omega arith in
+      let e : net .stages + i - net .stages ≡ i = omega arith in
+      rw (le-ltb (net .stages + i) (net .stages) h, e)
+
+  -- all places together add up to the scaled delay
+  pub places-delay : ((i : ℕ) → i < net .segments → net .parent i ≤ i) → sum (places net) (placeDelay net x) ≡ delay net x
+  unfolding segmentDelay stagesDelay
+  places-delay falls =
+      let a = sum-split (net .stages) (net .segments) (placeDelay net x) in
+      let b = sum-same (net .stages) (placeDelay net x) (λ s. stageDelay net x s * (2 * totalWeight net)) (λ s h. stage-place s h ∙ omega arith) in
+      let c = sum-scale (net .stages) (2 * totalWeight net) (stageDelay net x) in
+      let d = sum-same (net .segments) (λ i. placeDelay net x (net .stages + i)) (ownDelay net x) (λ i h. segment-place i) in
+      let e = delay-exchange net falls x in
+      omega arith
+
+  pub delayFrom-all : ((i : ℕ) → i < net .segments → net .parent i ≤ i) → delayFrom net x 0 ≡ delay net x
+  unfolding sum
+  delayFrom-all falls =
+      let z : places net - 0 ≡ places net = omega arith in
+      let h = sumFrom-sum 0 (places net) (placeDelay net x) in
+      let k : sum (0 + places net) (placeDelay net x) ≡ sum (places net) (placeDelay net x) = ap (λ (n : ℕ). sum n (placeDelay net x)) (zero-add (places net)) in
+      let e = places-delay falls in
+      rw z (omega arith)
+
+  pub delayFrom-none : (p : ℕ) → places net ≤ p → delayFrom net x p ≡ 0
+  unfolding sumFrom
+  delayFrom-none p h = let z : places net - p ≡ 0 = omega arith in rw z
+
+  pub delayFrom-step : (p : ℕ) → p < places net → delayFrom net x p ≡ placeDelay net x p + delayFrom net x (suc p)
+  unfolding sumFrom
+  delayFrom-step p h = let z : places net - p ≡ suc (places net - suc p) = omega arith in rw z
+
+-- What a place adds, and the load it shows, depend on the places from it on; the load that it drives on the places after it.
+module _ (net : Net) (falls : (i : ℕ) → i < net .segments → net .parent i ≤ i) (x y : List ℕ) where
+  branches-reads : (own own′ : ℕ → ℕ) (d q : ℕ) → ((i : ℕ) → q ≤ i → i < net .segments → own i ≡ own′ i)
+      → branchesTo (net .segments) (net .parent) own d q ≡ branchesTo (net .segments) (net .parent) own′ d q
+  unfolding branchesTo
+  branches-reads own own′ zero q e = refl
+  branches-reads own own′ (suc d) q e =
+      let deeper : (i : ℕ) → i < net .segments → eqb (net .parent i) q ≡ true
+          → own i + branchesTo (net .segments) (net .parent) own d (suc i) ≡ own′ i + branchesTo (net .segments) (net .parent) own′ d (suc i) =
+      λ i h t.
+      let l : q ≤ i = omega (arith, falls i h, eqb-true (net .parent i) q t) in
+      rw (e i l h, branches-reads own own′ d (suc i) (λ j m k. e j (omega arith) k)) in
+      sum-same (net .segments) _ _ (λ i h. cond-same (eqb (net .parent i) q) _ _ (deeper i h))
+
+  -- x and y agree from the place p on
+  abbrev pub Agree : ℕ → Type 0
+  Agree p = (q : ℕ) → p ≤ q → q < places net → at x q ≡ at y q
+
+  load-reads : (q : ℕ) → Agree (net .stages + q) → branchesLoad net x q ≡ branchesLoad net y q
+  load-reads q a = branches-reads (ownLoad net x) (ownLoad net y) (net .segments) q (λ i h k. ap (λ (w : ℕ). net .wireCapacitance i w + net .sink i) (a (net .stages + i) (omega arith) (omega arith)))
+
+  stage-reads : (s : ℕ) → s < net .stages → Agree (suc s) → stageLoad net x s ≡ stageLoad net y s
+  unfolding stageLoad
+  stage-reads s h a = go (eqb (suc s) (net .stages)) refl
+    where
+      go : (b : Bool) → eqb (suc s) (net .stages) ≡ b
+          → cond b (branchesLoad net x 0) (net .gate (at x (suc s))) ≡ cond b (branchesLoad net y 0) (net .gate (at y (suc s)))
+      go true e = load-reads 0 (λ q l m. a q (omega (arith, eqb-true (suc s) (net .stages) e)) m)
+      go false e = ap (net .gate) (a (suc s) (omega arith) (omega (arith, eqb-false (suc s) (net .stages) e)))
+
+  pub driven-reads : (p : ℕ) → p < places net → Agree (suc p) → drivenLoad net x p ≡ drivenLoad net y p
+  unfolding drivenLoad
+  driven-reads p h a = go (ltb p (net .stages)) refl
+    where
+      go : (b : Bool) → ltb p (net .stages) ≡ b
+          → cond b (stageLoad net x p) (loadUnder net x (p - net .stages)) ≡ cond b (stageLoad net y p) (loadUnder net y (p - net .stages))
+      go true e = stage-reads p (ltb-true p (net .stages) e) a
+      go false e =
+          ap (λ (l : ℕ). net .sink (p - net .stages) + l)
+          (load-reads (suc (p - net .stages)) (λ q l m. a q (omega (arith, ltb-false p (net .stages) e)) m))
+
+  at-segment : (p : ℕ) → at x p ≡ at y p → net .stages ≤ p → at x (net .stages + (p - net .stages)) ≡ at y (net .stages + (p - net .stages))
+  at-segment p e h = let g : net .stages + (p - net .stages) ≡ p = omega arith in rw g e
+
+  pub delayAt-reads : (p l : ℕ) → at x p ≡ at y p → delayAt net x p l ≡ delayAt net y p l
+  unfolding delayAt
+  delayAt-reads p l e = go (ltb p (net .stages)) refl
+    where
+      go : (b : Bool) → ltb p (net .stages) ≡ b
+          → cond b (net .driverResistance (at x p) * (net .output (at x p) + l)) (resistance net x (p - net .stages) * (capacitance net x (p - net .stages) + 2 * l))
+          ≡ cond b (net .driverResistance (at y p) * (net .output (at y p) + l)) (resistance net y (p - net .stages) * (capacitance net y (p - net .stages) + 2 * l))
+      go true t = ap (λ (k : ℕ). net .driverResistance k * (net .output k + l)) e
+      go false t =
+          let i = p - net .stages in
+          ap (λ (k : ℕ). net .wireResistance i k * (net .wireCapacitance i k + 2 * l)) (at-segment p e (ltb-false p (net .stages) t))
+
+  pub placeDelay-reads : (p : ℕ) → p < places net → Agree p → placeDelay net x p ≡ placeDelay net y p
+  placeDelay-reads p h a =
+      ap (λ (d : ℕ). placeWeight net p * d)
+      (ap (delayAt net x p) (driven-reads p h (λ q l m. a q (omega arith) m)) ∙ delayAt-reads p (drivenLoad net y p) (a p (omega arith) h))
+
+  pub placeLoad-reads : (p : ℕ) → p < places net → Agree p → placeLoad net x p ≡ placeLoad net y p
+  unfolding placeLoad
+  placeLoad-reads p h a = go (ltb p (net .stages)) refl
+    where
+      go : (b : Bool) → ltb p (net .stages) ≡ b
+          → cond b (net .gate (at x p)) (branchLoad net x (p - net .stages)) ≡ cond b (net .gate (at y p)) (branchLoad net y (p - net .stages))
+      go true e = ap (net .gate) (a p (omega arith) h)
+      go false e =
+          let l : net .stages ≤ p = ltb-false p (net .stages) e in
+          let i = p - net .stages in
+          let own = ap (λ (k : ℕ). net .wireCapacitance i k) (at-segment p (a p (omega arith) h) l) in
+          let rest = load-reads (suc i) (λ q n m. a q (omega arith) m) in
+          omega arith
+
+  pub delayFrom-reads : (p : ℕ) → Agree p → delayFrom net x p ≡ delayFrom net y p
+  delayFrom-reads p a =
+      sumFrom-same p (places net - p) (placeDelay net x) (placeDelay net y)
+      (λ q l m. placeDelay-reads q (omega arith) (λ r k n. a r (omega arith) n))

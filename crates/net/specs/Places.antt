@@ -1,0 +1,47 @@
+-- The scaled delay once more, place by place: what the search carries along and its contracts cite. `proofs/Places` shows that it adds up to
+-- the delay of `specs/Delay`, so a reader need not believe this file.
+use mathlib.Core.Bool.{cond}
+use mathlib.Core.List.{List}
+use Prim.Native.Nat.{ℕ, zero, suc, _+_, _*_, _-_, _≤_, _<_}
+use mathlib.Core.Path.{_≡_}
+use lib.Dec.{ltb}
+use Rattle.lattice.specs.Lists.{at}
+use Rattle.net.specs.Net.{Net, places}
+use Rattle.net.specs.Delay.{resistance, capacitance, branchLoad, loadUnder, stageLoad}
+use Rattle.net.specs.Segments.{weightBelow, totalWeight}
+
+-- f p + f (p + 1) + .., d terms.
+unfoldable pub sumFrom : ℕ → ℕ → (ℕ → ℕ) → ℕ
+sumFrom p zero f = 0
+sumFrom p (suc d) f = f p + sumFrom (suc p) d f
+
+-- The weight of what place p adds: for a stage twice that of all sinks, for a segment that of the sinks at or below its far end.
+unfoldable pub placeWeight : Net → ℕ → ℕ
+placeWeight net p = cond (ltb p (net .stages)) (2 * totalWeight net) (weightBelow net (p - net .stages))
+
+module _ (net : Net) (x : List ℕ) where
+  -- The load that place p drives: a stage's is what it drives beside its own output, a segment's the load under it.
+  unfoldable pub drivenLoad : ℕ → ℕ
+  drivenLoad p = cond (ltb p (net .stages)) (stageLoad net x p) (loadUnder net x (p - net .stages))
+
+  -- Its delay at the load l: a stage's resistance × (own output + load), a segment's resistance × (own capacitance + 2 × load).
+  unfoldable pub delayAt : ℕ → ℕ → ℕ
+  delayAt p l =
+      cond (ltb p (net .stages)) (net .driverResistance (at x p) * (net .output (at x p) + l))
+      (resistance net x (p - net .stages) * (capacitance net x (p - net .stages) + 2 * l))
+
+  -- What place p adds to the scaled delay.
+  abbrev pub placeDelay : ℕ → ℕ
+  placeDelay p = placeWeight net p * delayAt p (drivenLoad p)
+
+  -- The load that place p shows to what drives it: a stage its gate, a segment its branch.
+  unfoldable pub placeLoad : ℕ → ℕ
+  placeLoad p = cond (ltb p (net .stages)) (net .gate (at x p)) (branchLoad net x (p - net .stages))
+
+  -- What the places from p on add to the scaled delay.
+  abbrev pub delayFrom : ℕ → ℕ
+  delayFrom p = sumFrom p (places net - p) placeDelay
+
+  -- `loads` has the loads of the places from p on.
+  pub record LoadsFrom (p : ℕ) (loads : List ℕ) : Type 0 where
+    pub held : (q : ℕ) → p ≤ q → q < places net → at loads q ≡ placeLoad q
