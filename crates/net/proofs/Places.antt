@@ -89,7 +89,7 @@ module _ (net : Net) (falls : (i : ℕ) → i < net .segments → net .parent i 
   branches-reads own own′ zero q e = refl
   branches-reads own own′ (suc d) q e =
       let deeper : (i : ℕ) → i < net .segments → eqb (net .parent i) q ≡ true
-          → own i + branchesTo (net .segments) (net .parent) own d (suc i) ≡ own′ i + branchesTo (net .segments) (net .parent) own′ d (suc i) =
+      → own i + branchesTo (net .segments) (net .parent) own d (suc i) ≡ own′ i + branchesTo (net .segments) (net .parent) own′ d (suc i) =
       λ i h t.
       let l : q ≤ i = omega (arith, falls i h, eqb-true (net .parent i) q t) in
       rw (e i l h, branches-reads own own′ d (suc i) (λ j m k. e j (omega arith) k)) in
