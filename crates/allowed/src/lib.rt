@@ -14,7 +14,7 @@ fn index_in_range(job: &[u8], counts: Counts, sizing: &[u8], p: usize) -> bool
     requires { ⌜ (p < counts .stages + counts .segments) × (p < length (now sizing)) ⌝ }
     ensures { λ r. ⌜ r ≡ indexInRange (netBy counts (now (job .entry))) (now (sizing .entry)) p ⌝ }
 {
-    let k = job::index_at(sizing, p);
+    let k = sizing[p];
     (job::lowest(job, counts, p) <= k) & (k <= job::highest(job, counts, p))
 }
 

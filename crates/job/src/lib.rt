@@ -149,16 +149,16 @@ pub fn output(job: &[u8], counts: Counts, k: usize) -> Capacitance
 }
 
 // A byte of place p's record.
-pub fn place_byte(job: &[u8], counts: Counts, p: usize, at: usize) -> usize
+pub fn place_byte(job: &[u8], counts: Counts, p: usize, at: usize) -> u8
     requires { ⌜ Held counts (now job) ⌝ }
     requires { ⌜ (p < counts .stages + counts .segments) × (at < 16) ⌝ }
     ensures { λ r. ⌜ r ≡ byte (now (job .entry)) (placeAt counts p + at) ⌝ }
 {
-    index(job[16 * (counts.widths + counts.sizes + p) + at])
+    job[16 * (counts.widths + counts.sizes + p) + at]
 }
 
 // A byte of place p's record that a stage has at one offset and a segment at another.
-fn range_byte(job: &[u8], counts: Counts, p: usize, in_stage: usize, in_segment: usize) -> usize
+fn range_byte(job: &[u8], counts: Counts, p: usize, in_stage: usize, in_segment: usize) -> u8
     requires { ⌜ Held counts (now job) ⌝ }
     requires { ⌜ (p < counts .stages + counts .segments) × (in_stage < 16) × (in_segment < 16) ⌝ }
     ensures { λ r. ⌜ r ≡ cond (ltb p (counts .stages)) (byte (now (job .entry)) (placeAt counts p + in_stage)) (byte (now (job .entry)) (placeAt counts p + in_segment)) ⌝ }
@@ -170,7 +170,7 @@ fn range_byte(job: &[u8], counts: Counts, p: usize, in_stage: usize, in_segment:
 }
 
 // The lowest index that place p may have.
-pub fn lowest(job: &[u8], counts: Counts, p: usize) -> usize
+pub fn lowest(job: &[u8], counts: Counts, p: usize) -> u8
     requires { ⌜ Held counts (now job) ⌝ }
     requires { ⌜ p < counts .stages + counts .segments ⌝ }
     ensures { λ r. ⌜ r ≡ netBy counts (now (job .entry)) .lowest p ⌝ }
@@ -179,7 +179,7 @@ pub fn lowest(job: &[u8], counts: Counts, p: usize) -> usize
 }
 
 // The highest index that place p may have.
-pub fn highest(job: &[u8], counts: Counts, p: usize) -> usize
+pub fn highest(job: &[u8], counts: Counts, p: usize) -> u8
     requires { ⌜ Held counts (now job) ⌝ }
     requires { ⌜ p < counts .stages + counts .segments ⌝ }
     ensures { λ r. ⌜ r ≡ netBy counts (now (job .entry)) .highest p ⌝ }

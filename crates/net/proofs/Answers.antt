@@ -1,19 +1,18 @@
 -- The answers by cases: a refusal of the job is every operation's refusal, and past it the operation's own questions decide.
-use mathlib.Core.Path.{_≡_, refl, ap, _∙_}
-use mathlib.Core.Bool.{Bool, true, false, cond, _&&_}
+use mathlib.Core.Path.{_≡_, refl}
+use mathlib.Core.Bool.{Bool, true, false, cond}
 use mathlib.Core.List.{List, [], _∷_, _++_}
-use Prim.Native.Nat.{ℕ, suc, _≤_, _<_}
+use Prim.Native.Nat.{ℕ, _≤_, _<_}
 use native.Mathlib.Omega.{arith}
-use borrow.Author.Tests.{ne-eqb, le-leb, lt-leb, lt-ltb, le-ltb}
-use lib.Dec.{T, eqb, lit≤}
-use lib.ListN.{length}
+use borrow.Author.Tests.{ne-eqb, le-leb, lt-leb}
+use lib.Dec.{lit≤}
 use Rattle.lattice.specs.Side.{Side}
 use Rattle.lattice.specs.Refine.{best}
-use Rattle.net.specs.Net.{netOf, places}
+use Rattle.net.specs.Net.{netOf}
 use Rattle.net.specs.Delay.{delay, loadFigure}
 use Rattle.net.specs.Sizings.{allowed}
 use Rattle.net.specs.Questions.{Question, ask, firstNo, jobQuestions, refusal}
-use Rattle.net.specs.Answers.{question15, question16, question17, sizingIn, Measured, measureNumber, measured, Refined, refineNumber, refined, chooseNumber, firstChosen, chosen}
+use Rattle.net.specs.Answers.{question15, question16, sizingIn, measureNumber, measured, refineNumber, refined, chooseNumber, firstChosen, chosen}
 
 -- every question has a number above 0
 Numbered : List Question → Type 0

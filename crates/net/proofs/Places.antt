@@ -7,10 +7,12 @@ use native.Mathlib.Nat.{add-zero, zero-add}
 use native.Mathlib.Omega.{arith}
 use borrow.Author.Tests.{lt-ltb, le-ltb, eqb-true, eqb-false, ltb-true, ltb-false}
 use lib.Dec.{eqb, ltb}
+use lib.ListN.{take}
+use lib.Seq.{getD-take}
 use Rattle.lattice.specs.Lists.{at, sum}
 use Rattle.net.specs.Net.{Net, places}
-use Rattle.net.specs.Delay.{branchesTo, branches, branch, resistance, capacitance, ownLoad, branchLoad, branchesLoad, loadUnder, stageLoad, stageDelay, stagesDelay, segmentDelay, delay}
-use Rattle.net.specs.Segments.{weightBelow, totalWeight, ownDelay}
+use Rattle.net.specs.Delay.{branchesTo, resistance, capacitance, ownLoad, branchLoad, branchesLoad, loadUnder, stageLoad, stageDelay, stagesDelay, segmentDelay, delay, gatesLoad, loadFigure}
+use Rattle.net.specs.Segments.{totalWeight, ownDelay}
 use Rattle.net.specs.Places.{sumFrom, placeWeight, drivenLoad, delayAt, placeDelay, placeLoad, delayFrom}
 use Rattle.net.proofs.Sum.{sum-same, sum-scale}
 use Rattle.net.proofs.Branches.{cond-same}
@@ -160,3 +162,22 @@ module _ (net : Net) (falls : (i : ℕ) → i < net .segments → net .parent i 
   delayFrom-reads p a =
       sumFrom-same p (places net - p) (placeDelay net x) (placeDelay net y)
       (λ q l m. placeDelay-reads q (omega arith) (λ r k n. a r (omega arith) n))
+
+-- A delay and a load figure read the indices of the places and nothing behind them.
+module _ (net : Net) (falls : (i : ℕ) → i < net .segments → net .parent i ≤ i) where
+  pub delay-reads : (x y : List ℕ) → ((p : ℕ) → p < places net → at x p ≡ at y p) → delay net x ≡ delay net y
+  delay-reads x y same = sym (delayFrom-all net x falls) ∙ delayFrom-reads net falls x y 0 (λ q l m. same q m) ∙ delayFrom-all net y falls
+
+  pub delay-take : (x : List ℕ) → delay net (take (places net) x) ≡ delay net x
+  delay-take x = delay-reads (take (places net) x) x (λ p h. getD-take (places net) x p 0 h)
+
+module _ (net : Net) where
+  pub loadFigure-reads : (x y : List ℕ) → ((p : ℕ) → p < places net → at x p ≡ at y p) → loadFigure net x ≡ loadFigure net y
+  unfolding loadFigure gatesLoad
+  loadFigure-reads x y same =
+      let own = sum-same (net .segments) (ownLoad net x) (ownLoad net y) (λ i h. ap (λ (k : ℕ). net .wireCapacitance i k + net .sink i) (same (net .stages + i) (omega arith))) in
+      let gates = sum-same (net .stages - 1) (λ s. net .gate (at x (suc s))) (λ s. net .gate (at y (suc s))) (λ s h. ap (net .gate) (same (suc s) (omega arith))) in
+      omega arith
+
+  pub loadFigure-take : (x : List ℕ) → loadFigure net (take (places net) x) ≡ loadFigure net x
+  loadFigure-take x = loadFigure-reads (take (places net) x) x (λ p h. getD-take (places net) x p 0 h)

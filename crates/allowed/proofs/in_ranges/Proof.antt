@@ -1,6 +1,5 @@
 -- `allowed::in_ranges` meets its contract: the loop tests one place after another.
-use Prim.Native.Nat.{_+_, _-_}
-use mathlib.Core.Path.{_≡_}
+use Prim.Native.Nat.{_-_}
 use native.Mathlib.Omega.{arith}
 use borrow.Author.Needs.{needs}
 use Rattle.lattice.proofs.Every.{Going, begins, goes-on, stops, ends}

@@ -3,8 +3,8 @@ use borrow.Author.Needs.{needs}
 use Rattle.allowed.proofs.index_in_range.Statement.{statement}
 use Rattle.allowed.proofs.index_in_range.Tie as tie
 
-index-at-requires : tie.Need-index-at-requires
-index-at-requires c κs = search needs
+shared-slice-read-k : tie.Need-shared-slice-read-k
+shared-slice-read-k c = search needs
 
 lowest-requires : tie.Need-lowest-requires
 lowest-requires c κs = search needs
@@ -17,4 +17,4 @@ returns c = cc
 
 pub index-in-range-spec : {M : Type 1} → statement M
 index-in-range-spec =
-    tie.close (tie.spec index-at-requires lowest-requires highest-requires returns)
+    tie.close (tie.spec shared-slice-read-k lowest-requires highest-requires returns)

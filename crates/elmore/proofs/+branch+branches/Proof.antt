@@ -1,0 +1,145 @@
+-- `elmore::branch` and `elmore::branches` meet their contracts. Each step is a lemma of `Tallies`; a child and a sibling have larger numbers, so what
+-- is left of the segments falls.
+use Prim.Native.Nat.{ℕ, _+_, _*_, _-_, _<_}
+use native.Mathlib.Omega.{arith}
+use borrow.Author.Needs.{needs}
+use Rattle.net.proofs.Questions.{ordered, limited}
+use Rattle.links.proofs.Siblings.{first-behind}
+use Rattle.elmore.proofs.Tallies.{behind-room, behind-tally, joined-room, joined-tally, none-tally}
+use borrow.Fn.Kinds.{In}
+use borrow.Fn.PlainCycle.{Measures, is, falls, and}
+use Rattle.elmore.proofs.branch.Reads as branch
+use Rattle.elmore.proofs.branch.Kinds as branch-kinds
+use Rattle.elmore.proofs.+branch+branches.Lts-branch as branch-lts
+use Rattle.elmore.proofs.branches.Reads as branches
+use Rattle.elmore.proofs.branches.Kinds as branches-kinds
+use Rattle.elmore.proofs.+branch+branches.Lts-branches as branches-lts
+use Rattle.elmore.proofs.behind.Reads as behind-reads
+use Rattle.elmore.proofs.joined.Reads as joined-reads
+use Rattle.elmore.proofs.sized.Reads as sized-reads
+use Rattle.elmore.proofs.+branch+branches.{statement}
+use Rattle.elmore.proofs.+branch+branches.Tie.{close}
+
+abbrev μ-branch : Measures 4 branch-kinds.ps ℕ
+μ-branch κs a = 2 * (a .1 .0 .segments - a .1 .1 .1 .1 .1 .0)
+
+abbrev μ-branches : Measures 4 branches-kinds.ps ℕ
+μ-branches κs a = 2 * (a .1 .0 .segments - a .1 .1 .1 .1 .1 .0) + 1
+
+abbrev branch-at : ℕ → In 4 branch-kinds.ps
+branch-at t = and 4 branch-kinds.ps (is 4 branch-kinds.ps μ-branch t) branch.Pre
+
+abbrev branch-below : ℕ → In 4 branch-kinds.ps
+branch-below t = and 4 branch-kinds.ps (falls 4 branch-kinds.ps _<_ μ-branch t) branch.Pre
+
+abbrev branches-at : ℕ → In 4 branches-kinds.ps
+branches-at t = and 4 branches-kinds.ps (is 4 branches-kinds.ps μ-branches t) branches.Pre
+
+abbrev branches-below : ℕ → In 4 branches-kinds.ps
+branches-below t =
+    and 4 branches-kinds.ps (falls 4 branches-kinds.ps _<_ μ-branches t) branches.Pre
+
+-- what each callee asks and tells
+abbrev branch-claims : ℕ → branch-lts.Claims
+branch-claims t = (sized-reads.Asked, sized-reads.Learnt, branches-below t, branches.Post, behind-reads.Asked, behind-reads.Learnt)
+
+abbrev branches-claims : ℕ → branches-lts.Claims
+branches-claims t = (branch-below t, branch.Post, branches-below t, branches.Post, joined-reads.Asked, joined-reads.Learnt)
+
+branch-sized-requires : (t : ℕ) → branch-lts.Need-sized-requires (branch-claims t) (branch-at t) branch.Post
+branch-sized-requires t c κs = search needs
+
+branch-add-child : (t : ℕ) → branch-lts.Need-add-child (branch-claims t) (branch-at t) branch.Post
+branch-add-child t c = search needs
+
+branch-mul-child : (t : ℕ) → branch-lts.Need-mul-child (branch-claims t) (branch-at t) branch.Post
+branch-mul-child t c = search needs
+
+branch-shared-slice-read-child : (t : ℕ) → branch-lts.Need-shared-slice-read-child (branch-claims t) (branch-at t) branch.Post
+branch-shared-slice-read-child t c = search needs
+
+branch-branches-requires : (t : ℕ) → branch-lts.Need-branches-requires (branch-claims t) (branch-at t) branch.Post
+branch-branches-requires t c κs =
+    let b = c .before .before .before .before .before .before in
+    let a = b .args in
+    let r = b .pre .1 .0 in
+    let f = b .pre .1 .1 .0 .firsts (a .i + 1) (omega arith) in
+    (omega (arith, first-behind _ (ordered (r .checked) .parents) (a .i + 1) _ (omega arith) f), (r, (b .pre .1 .1 .0, f .within)))
+
+branch-behind-requires : (t : ℕ) → branch-lts.Need-behind-requires (branch-claims t) (branch-at t) branch.Post
+branch-behind-requires t c κs =
+    let b = c .before .before .before .before .before .before .before in
+    let a = b .args in
+    let r = b .pre .1 .0 in
+    behind-room (ordered (r .checked)) (limited (r .checked)) (r .inRanges) (a .i) _ (b .pre .1 .1 .1) (b .pre .1 .1 .0 .firsts (a .i + 1) (omega arith))
+    _ _ (c .before .before .sized .ensures) (c .branches .ensures)
+
+branch-returns : (t : ℕ) → branch-lts.Need-returns (branch-claims t) (branch-at t) branch.Post
+branch-returns t c =
+    let b = c .before .before .before .before .before .before .before .before in
+    let a = b .args in
+    let r = b .pre .1 .0 in
+    behind-tally (ordered (r .checked)) (limited (r .checked)) (r .inRanges) (a .i) _ (b .pre .1 .1 .1) (b .pre .1 .1 .0 .firsts (a .i + 1) (omega arith))
+    _ _ (c .before .before .before .sized .ensures) (c .before .branches .ensures) _ (c .behind .ensures)
+
+branches-returns : (t : ℕ) → branches-lts.Need-returns (branches-claims t) (branches-at t) branches.Post
+branches-returns t c = let b = c .before .before .before .before .before .before in none-tally (b .args .j) (omega arith)
+
+branches-branch-requires : (t : ℕ) → branches-lts.Need-branch-requires (branches-claims t) (branches-at t) branches.Post
+branches-branch-requires t c κs =
+    let b = c .before .before .before .before .before .before in
+    (omega arith, (b .pre .1 .0, (b .pre .1 .1 .0, omega arith)))
+
+branches-mul-sibling : (t : ℕ) → branches-lts.Need-mul-sibling (branches-claims t) (branches-at t) branches.Post
+branches-mul-sibling t c = search needs
+
+branches-shared-slice-read-sibling : (t : ℕ) → branches-lts.Need-shared-slice-read-sibling (branches-claims t) (branches-at t) branches.Post
+branches-shared-slice-read-sibling t c = search needs
+
+branches-branches-requires : (t : ℕ) → branches-lts.Need-branches-requires (branches-claims t) (branches-at t) branches.Post
+branches-branches-requires t c κs =
+    let b = c .before .before .before .before .before .before .before .before in
+    let a = b .args in
+    let r = b .pre .1 .0 in
+    let f = b .pre .1 .1 .0 .nexts (a .j) (omega arith) in
+    (omega arith, (r, (b .pre .1 .1 .0, f .within)))
+
+branches-joined-requires : (t : ℕ) → branches-lts.Need-joined-requires (branches-claims t) (branches-at t) branches.Post
+branches-joined-requires t c κs =
+    let b = c .before .before .before .before .before .before .before .before .before in
+    let a = b .args in
+    let r = b .pre .1 .0 in
+    let l : a .j < a .counts .segments = omega arith in
+    joined-room (ordered (r .checked)) (limited (r .checked)) (r .inRanges) (a .j) _ l (b .pre .1 .1 .0 .nexts (a .j) l)
+    _ _ (c .before .before .branch .ensures) (c .branches .ensures)
+
+branches-returns-2 : (t : ℕ) → branches-lts.Need-returns-2 (branches-claims t) (branches-at t) branches.Post
+branches-returns-2 t c =
+    let b = c .before .before .before .before .before .before .before .before .before .before in
+    let a = b .args in
+    let r = b .pre .1 .0 in
+    let l : a .j < a .counts .segments = omega arith in
+    joined-tally (ordered (r .checked)) (limited (r .checked)) (r .inRanges) (a .j) _ l (b .pre .1 .1 .0 .nexts (a .j) l)
+    _ _ (c .before .before .before .branch .ensures) (c .before .branches .ensures) _ (c .joined .ensures)
+
+pub +branch+branches-spec : {M : Type 1} → statement M
++branch+branches-spec = close μ-branch μ-branches (λ t. branch-lts.spec (branch-claims t)
+    (branch-at t)
+    branch.Post
+    (branch-sized-requires t)
+    (branch-add-child t)
+    (branch-mul-child t)
+    (branch-shared-slice-read-child t)
+    (branch-branches-requires t)
+    (branch-behind-requires t)
+    (branch-returns t))
+    λ t. branches-lts.spec (branches-claims t)
+    (branches-at t)
+    branches.Post
+    (branches-returns t)
+    (branches-branch-requires t)
+    (branches-mul-sibling t)
+    (branches-shared-slice-read-sibling t)
+    (branches-branches-requires t)
+    (branches-joined-requires t)
+    (branches-returns-2 t)

@@ -1,0 +1,229 @@
+// The delay and the load figure of a sized net, in time linear in its segments.
+use job::Wire;
+use net::Counts;
+use quantity::Capacitance;
+use quantity::Delay;
+ghost use mathlib.Core.Path.{_≡_};
+ghost use Prim.Native.Nat.{_<_, _≤_};
+ghost use Rattle.net.specs.Net.{netBy};
+ghost use Rattle.net.specs.Delay.{branch as branchOf, branches as branchesOf, branchesLoad, stageLoad, stageDelay, stagesDelay, gatesLoad, delay as delayOf};
+ghost use Rattle.links.specs.Links.{Linked, siblings};
+ghost use Rattle.elmore.specs.Ready.{Ready};
+ghost use Rattle.elmore.specs.Step.{Fields, RoomBehind, Behind, RoomJoined, Joined};
+ghost use Rattle.elmore.specs.Tally.{Tally, FiguresOf};
+
+// A segment with its wire at the sizing's width.
+pub struct Segment {
+    pub weight: u64,
+    pub sink: Capacitance,
+    pub wire: Wire,
+}
+
+// A part of the tree: the weight of its sinks, its load, and the scaled delay that arises inside it.
+pub struct Part {
+    pub weight: u64,
+    pub load: Capacitance,
+    pub delay: Delay,
+}
+
+// The scaled delay and the load figure of a sizing.
+pub struct DelayAndLoad {
+    pub delay: Delay,
+    pub load: Capacitance,
+}
+
+// Segment i, as the sizing has it.
+fn sized(job: &[u8], counts: Counts, sizing: &[u8], i: usize) -> Segment
+    requires { ⌜ Ready counts (now job) (now sizing) ⌝ }
+    requires { ⌜ i < counts .segments ⌝ }
+    ensures { λ r. ⌜ Fields (netBy counts (now (job .entry))) (now (sizing .entry)) i r ⌝ }
+{
+    let width = job::index_at(sizing, counts.stages + i);
+    Segment {
+        weight: job::weight(job, counts, i),
+        sink: job::sink(job, counts, i),
+        wire: job::wire_at(job, counts, i, width),
+    }
+}
+
+// A segment with the part of the tree that lies under it.
+fn behind(s: Segment, under: Part) -> Part
+    requires { ⌜ RoomBehind s under ⌝ }
+    ensures { λ r. ⌜ Behind s under r ⌝ }
+{
+    let weight = s.weight + under.weight;
+    let wire = s.wire;
+    let own = wire.capacitance;
+    let below = quantity::add_capacitance(s.sink, under.load);
+    let lag = quantity::delay_through(wire.resistance, quantity::charged_twice(own, below));
+    Part {
+        weight: weight,
+        load: quantity::add_capacitance(own, below),
+        delay: quantity::add_delay(quantity::weighted(weight, lag), under.delay),
+    }
+}
+
+// Two parts together.
+fn joined(a: Part, b: Part) -> Part
+    requires { ⌜ RoomJoined a b ⌝ }
+    ensures { λ r. ⌜ Joined a b r ⌝ }
+{
+    Part {
+        weight: a.weight + b.weight,
+        load: quantity::add_capacitance(a.load, b.load),
+        delay: quantity::add_delay(a.delay, b.delay),
+    }
+}
+
+// Segment i and all below it.
+fn branch(
+    job: &[u8],
+    counts: Counts,
+    first: &[usize],
+    next: &[usize],
+    sizing: &[u8],
+    i: usize,
+) -> Part
+    requires { ⌜ Ready counts (now job) (now sizing) ⌝ }
+    requires { ⌜ Linked (netBy counts (now job)) (now first) (now next) ⌝ }
+    requires { ⌜ i < counts .segments ⌝ }
+    ensures { λ r. ⌜ Tally (netBy counts (now (job .entry))) (now (sizing .entry)) branchOf i r ⌝ }
+{
+    let s = sized(job, counts, sizing, i);
+    let child = first[i + 1];
+    let under = branches(job, counts, first, next, sizing, child);
+    behind(s, under)
+}
+
+// Segment j and its siblings after it, each with all below it; past the last segment there is none.
+fn branches(
+    job: &[u8],
+    counts: Counts,
+    first: &[usize],
+    next: &[usize],
+    sizing: &[u8],
+    j: usize,
+) -> Part
+    requires { ⌜ Ready counts (now job) (now sizing) ⌝ }
+    requires { ⌜ Linked (netBy counts (now job)) (now first) (now next) ⌝ }
+    requires { ⌜ j ≤ counts .segments ⌝ }
+    ensures { λ r. ⌜ Tally (netBy counts (now (job .entry))) (now (sizing .entry)) siblings j r ⌝ }
+{
+    if j == counts.segments {
+        return Part {
+            weight: 0,
+            load: Capacitance(0),
+            delay: Delay(0),
+        };
+    }
+    let head = branch(job, counts, first, next, sizing, j);
+    let sibling = next[j];
+    let rest = branches(job, counts, first, next, sizing, sibling);
+    joined(head, rest)
+}
+
+// The whole tree: the branches at the source.
+fn whole(job: &[u8], counts: Counts, first: &[usize], next: &[usize], sizing: &[u8]) -> Part
+    requires { ⌜ Ready counts (now job) (now sizing) ⌝ }
+    requires { ⌜ Linked (netBy counts (now job)) (now first) (now next) ⌝ }
+    ensures { λ r. ⌜ Tally (netBy counts (now (job .entry))) (now (sizing .entry)) branchesOf 0 r ⌝ }
+{
+    let root = first[0];
+    branches(job, counts, first, next, sizing, root)
+}
+
+// What stage s drives, where the load of the whole tree is known.
+fn stage_load(job: &[u8], counts: Counts, sizing: &[u8], tree: Capacitance, s: usize) -> Capacitance
+    requires { ⌜ Ready counts (now job) (now sizing) ⌝ }
+    requires { ⌜ tree .0 ≡ branchesLoad (netBy counts (now job)) (now sizing) 0 ⌝ }
+    requires { ⌜ s < counts .stages ⌝ }
+    ensures { λ r. ⌜ r .0 ≡ stageLoad (netBy counts (now (job .entry))) (now (sizing .entry)) s ⌝ }
+{
+    if s + 1 == counts.stages {
+        return tree;
+    }
+    let size = job::index_at(sizing, s + 1);
+    job::gate(job, counts, size)
+}
+
+// What stage s contributes to every sink.
+fn stage(job: &[u8], counts: Counts, sizing: &[u8], tree: Capacitance, s: usize) -> Delay
+    requires { ⌜ Ready counts (now job) (now sizing) ⌝ }
+    requires { ⌜ tree .0 ≡ branchesLoad (netBy counts (now job)) (now sizing) 0 ⌝ }
+    requires { ⌜ s < counts .stages ⌝ }
+    ensures { λ r. ⌜ r .0 ≡ stageDelay (netBy counts (now (job .entry))) (now (sizing .entry)) s ⌝ }
+{
+    let size = job::index_at(sizing, s);
+    let own = job::output(job, counts, size);
+    let driven = stage_load(job, counts, sizing, tree, s);
+    let resistance = job::driver_resistance(job, counts, size);
+    quantity::delay_through(resistance, quantity::add_capacitance(own, driven))
+}
+
+// What all stages contribute to every sink.
+fn stages(job: &[u8], counts: Counts, sizing: &[u8], tree: Capacitance) -> Delay
+    requires { ⌜ Ready counts (now job) (now sizing) ⌝ }
+    requires { ⌜ tree .0 ≡ branchesLoad (netBy counts (now job)) (now sizing) 0 ⌝ }
+    ensures { λ r. ⌜ r .0 ≡ stagesDelay (netBy counts (now (job .entry))) (now (sizing .entry)) ⌝ }
+{
+    let mut sum = Delay(0);
+    let mut s = 0;
+    while s < counts.stages {
+        sum = quantity::add_delay(sum, stage(job, counts, sizing, tree, s));
+        s += 1;
+    }
+    sum
+}
+
+// The scaled delay, where the tree is counted up.
+fn driven(job: &[u8], counts: Counts, sizing: &[u8], tree: Part) -> Delay
+    requires { ⌜ Ready counts (now job) (now sizing) ⌝ }
+    requires { ⌜ Tally (netBy counts (now job)) (now sizing) branchesOf 0 tree ⌝ }
+    ensures { λ r. ⌜ r .0 ≡ delayOf (netBy counts (now (job .entry))) (now (sizing .entry)) ⌝ }
+{
+    let before = quantity::weighted(2, stages(job, counts, sizing, tree.load));
+    quantity::add_delay(quantity::weighted(tree.weight, before), tree.delay)
+}
+
+// The gates of stages 1 and up.
+fn gates(job: &[u8], counts: Counts, sizing: &[u8]) -> Capacitance
+    requires { ⌜ Ready counts (now job) (now sizing) ⌝ }
+    ensures { λ r. ⌜ r .0 ≡ gatesLoad (netBy counts (now (job .entry))) (now (sizing .entry)) ⌝ }
+{
+    let mut sum = Capacitance(0);
+    let mut s = 0;
+    while s + 1 < counts.stages {
+        let size = job::index_at(sizing, s + 1);
+        sum = quantity::add_capacitance(sum, job::gate(job, counts, size));
+        s += 1;
+    }
+    sum
+}
+
+// The scaled delay of a sizing.
+pub fn delay(job: &[u8], counts: Counts, first: &[usize], next: &[usize], sizing: &[u8]) -> Delay
+    requires { ⌜ Ready counts (now job) (now sizing) ⌝ }
+    requires { ⌜ Linked (netBy counts (now job)) (now first) (now next) ⌝ }
+    ensures { λ r. ⌜ r .0 ≡ delayOf (netBy counts (now (job .entry))) (now (sizing .entry)) ⌝ }
+{
+    driven(job, counts, sizing, whole(job, counts, first, next, sizing))
+}
+
+// The scaled delay and the load figure of a sizing.
+pub fn figures(
+    job: &[u8],
+    counts: Counts,
+    first: &[usize],
+    next: &[usize],
+    sizing: &[u8],
+) -> DelayAndLoad
+    requires { ⌜ Ready counts (now job) (now sizing) ⌝ }
+    requires { ⌜ Linked (netBy counts (now job)) (now first) (now next) ⌝ }
+    ensures { λ r. ⌜ FiguresOf (netBy counts (now (job .entry))) (now (sizing .entry)) r ⌝ }
+{
+    let tree = whole(job, counts, first, next, sizing);
+    DelayAndLoad {
+        delay: driven(job, counts, sizing, tree),
+        load: quantity::add_capacitance(tree.load, gates(job, counts, sizing)),
+    }
+}
