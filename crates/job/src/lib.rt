@@ -24,7 +24,8 @@ fn number(x: u8) -> u64
     x as u64
 }
 
-fn index(x: u8) -> usize
+// A byte, as an index.
+pub fn index(x: u8) -> usize
     ensures { λ r. ⌜ (r ≡ x) × (r < 256) ⌝ }
 {
     x as usize
@@ -41,7 +42,7 @@ pub fn word_at(b: &[u8], at: usize) -> u64
         + 16777216 * number(b[at + 3])
 }
 
-// One byte, as an index.
+// The byte at a position, as an index.
 pub fn index_at(b: &[u8], at: usize) -> usize
     requires { ⌜ at < length (now b) ⌝ }
     ensures { λ r. ⌜ (r ≡ byte (now (b .entry)) at) × (r < 256) ⌝ }

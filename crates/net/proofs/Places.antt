@@ -11,9 +11,9 @@ use lib.ListN.{take}
 use lib.Seq.{getD-take}
 use Rattle.lattice.specs.Lists.{at, sum}
 use Rattle.net.specs.Net.{Net, places}
-use Rattle.net.specs.Delay.{branchesTo, resistance, capacitance, ownLoad, branchLoad, branchesLoad, loadUnder, stageLoad, stageDelay, stagesDelay, segmentDelay, delay, gatesLoad, loadFigure}
+use Rattle.net.specs.Delay.{branchesTo, ownLoad, branchLoad, branchesLoad, loadUnder, stageLoad, stageDelay, stagesDelay, segmentDelay, delay, gatesLoad, loadFigure}
 use Rattle.net.specs.Segments.{totalWeight, ownDelay}
-use Rattle.net.specs.Places.{sumFrom, placeWeight, drivenLoad, delayAt, placeDelay, placeLoad, delayFrom}
+use Rattle.net.specs.Places.{sumFrom, placeWeight, drivenLoad, delayAt, loadAt, placeDelay, placeLoad, delayFrom}
 use Rattle.net.proofs.Sum.{sum-same, sum-scale}
 use Rattle.net.proofs.Branches.{cond-same}
 use Rattle.net.proofs.Exchange.{delay-exchange}
@@ -54,6 +54,18 @@ module _ (net : Net) (x : List ℕ) where
       let h : net .stages ≤ net .stages + i = omega arith in
       let e : net .stages + i - net .stages ≡ i = omega arith in
       rw (le-ltb (net .stages + i) (net .stages) h, e)
+
+  -- a segment shows the load of its branch
+  pub segment-load : (i : ℕ) → placeLoad net x (net .stages + i) ≡ branchLoad net x i
+  unfolding loadAt drivenLoad
+  segment-load i =
+      let h : net .stages ≤ net .stages + i = omega arith in
+      let e : net .stages + i - net .stages ≡ i = omega arith in
+      rw (le-ltb (net .stages + i) (net .stages) h, e) (omega arith)
+
+  pub stage-load : (s : ℕ) → s < net .stages → placeLoad net x s ≡ net .gate (at x s)
+  unfolding loadAt
+  stage-load s h = rw (lt-ltb s (net .stages) h)
 
   -- all places together add up to the scaled delay
   pub places-delay : ((i : ℕ) → i < net .segments → net .parent i ≤ i) → sum (places net) (placeDelay net x) ≡ delay net x
@@ -124,39 +136,11 @@ module _ (net : Net) (falls : (i : ℕ) → i < net .segments → net .parent i 
           ap (λ (l : ℕ). net .sink (p - net .stages) + l)
           (load-reads (suc (p - net .stages)) (λ q l m. a q (omega (arith, ltb-false p (net .stages) e)) m))
 
-  at-segment : (p : ℕ) → at x p ≡ at y p → net .stages ≤ p → at x (net .stages + (p - net .stages)) ≡ at y (net .stages + (p - net .stages))
-  at-segment p e h = let g : net .stages + (p - net .stages) ≡ p = omega arith in rw g e
-
-  pub delayAt-reads : (p l : ℕ) → at x p ≡ at y p → delayAt net x p l ≡ delayAt net y p l
-  unfolding delayAt
-  delayAt-reads p l e = go (ltb p (net .stages)) refl
-    where
-      go : (b : Bool) → ltb p (net .stages) ≡ b
-          → cond b (net .driverResistance (at x p) * (net .output (at x p) + l)) (resistance net x (p - net .stages) * (capacitance net x (p - net .stages) + 2 * l))
-          ≡ cond b (net .driverResistance (at y p) * (net .output (at y p) + l)) (resistance net y (p - net .stages) * (capacitance net y (p - net .stages) + 2 * l))
-      go true t = ap (λ (k : ℕ). net .driverResistance k * (net .output k + l)) e
-      go false t =
-          let i = p - net .stages in
-          ap (λ (k : ℕ). net .wireResistance i k * (net .wireCapacitance i k + 2 * l)) (at-segment p e (ltb-false p (net .stages) t))
-
   pub placeDelay-reads : (p : ℕ) → p < places net → Agree p → placeDelay net x p ≡ placeDelay net y p
-  placeDelay-reads p h a =
-      ap (λ (d : ℕ). placeWeight net p * d)
-      (ap (delayAt net x p) (driven-reads p h (λ q l m. a q (omega arith) m)) ∙ delayAt-reads p (drivenLoad net y p) (a p (omega arith) h))
+  placeDelay-reads p h a = cc (a p (omega arith) h, driven-reads p h (λ q l m. a q (omega arith) m))
 
   pub placeLoad-reads : (p : ℕ) → p < places net → Agree p → placeLoad net x p ≡ placeLoad net y p
-  unfolding placeLoad
-  placeLoad-reads p h a = go (ltb p (net .stages)) refl
-    where
-      go : (b : Bool) → ltb p (net .stages) ≡ b
-          → cond b (net .gate (at x p)) (branchLoad net x (p - net .stages)) ≡ cond b (net .gate (at y p)) (branchLoad net y (p - net .stages))
-      go true e = ap (net .gate) (a p (omega arith) h)
-      go false e =
-          let l : net .stages ≤ p = ltb-false p (net .stages) e in
-          let i = p - net .stages in
-          let own = ap (λ (k : ℕ). net .wireCapacitance i k) (at-segment p (a p (omega arith) h) l) in
-          let rest = load-reads (suc i) (λ q n m. a q (omega arith) m) in
-          omega arith
+  placeLoad-reads p h a = cc (a p (omega arith) h, driven-reads p h (λ q l m. a q (omega arith) m))
 
   pub delayFrom-reads : (p : ℕ) → Agree p → delayFrom net x p ≡ delayFrom net y p
   delayFrom-reads p a =

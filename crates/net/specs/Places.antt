@@ -7,7 +7,7 @@ use mathlib.Core.Path.{_≡_}
 use lib.Dec.{ltb}
 use Rattle.lattice.specs.Lists.{at}
 use Rattle.net.specs.Net.{Net, places}
-use Rattle.net.specs.Delay.{resistance, capacitance, branchLoad, loadUnder, stageLoad}
+use Rattle.net.specs.Delay.{loadUnder, stageLoad}
 use Rattle.net.specs.Segments.{weightBelow, totalWeight}
 
 -- f p + f (p + 1) + .., d terms.
@@ -19,24 +19,29 @@ sumFrom p (suc d) f = f p + sumFrom (suc p) d f
 unfoldable pub placeWeight : Net → ℕ → ℕ
 placeWeight net p = cond (ltb p (net .stages)) (2 * totalWeight net) (weightBelow net (p - net .stages))
 
+-- The delay of place p at the index k where it drives the load l: a stage's resistance × (own output + load), a segment's resistance ×
+-- (own capacitance + 2 × load).
+unfoldable pub delayAt : Net → ℕ → ℕ → ℕ → ℕ
+delayAt net p k l =
+    cond (ltb p (net .stages)) (net .driverResistance k * (net .output k + l))
+    (net .wireResistance (p - net .stages) k * (net .wireCapacitance (p - net .stages) k + 2 * l))
+
+-- The load that place p then shows to what drives it: a stage its gate, a segment its branch.
+unfoldable pub loadAt : Net → ℕ → ℕ → ℕ → ℕ
+loadAt net p k l = cond (ltb p (net .stages)) (net .gate k) (net .wireCapacitance (p - net .stages) k + l)
+
 module _ (net : Net) (x : List ℕ) where
   -- The load that place p drives: a stage's is what it drives beside its own output, a segment's the load under it.
   unfoldable pub drivenLoad : ℕ → ℕ
   drivenLoad p = cond (ltb p (net .stages)) (stageLoad net x p) (loadUnder net x (p - net .stages))
 
-  -- Its delay at the load l: a stage's resistance × (own output + load), a segment's resistance × (own capacitance + 2 × load).
-  unfoldable pub delayAt : ℕ → ℕ → ℕ
-  delayAt p l =
-      cond (ltb p (net .stages)) (net .driverResistance (at x p) * (net .output (at x p) + l))
-      (resistance net x (p - net .stages) * (capacitance net x (p - net .stages) + 2 * l))
-
   -- What place p adds to the scaled delay.
   abbrev pub placeDelay : ℕ → ℕ
-  placeDelay p = placeWeight net p * delayAt p (drivenLoad p)
+  placeDelay p = placeWeight net p * delayAt net p (at x p) (drivenLoad p)
 
-  -- The load that place p shows to what drives it: a stage its gate, a segment its branch.
-  unfoldable pub placeLoad : ℕ → ℕ
-  placeLoad p = cond (ltb p (net .stages)) (net .gate (at x p)) (branchLoad net x (p - net .stages))
+  -- The load that place p shows.
+  abbrev pub placeLoad : ℕ → ℕ
+  placeLoad p = loadAt net p (at x p) (drivenLoad p)
 
   -- What the places from p on add to the scaled delay.
   abbrev pub delayFrom : ℕ → ℕ

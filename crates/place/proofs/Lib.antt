@@ -1,0 +1,3 @@
+pub mod LinkedSums
+pub mod Steps
+pub mod Weights

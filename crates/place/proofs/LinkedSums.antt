@@ -1,0 +1,118 @@
+-- Sums by the links: they are the sums over the branches, and so is the load that a place drives.
+use mathlib.Core.Path.{_≡_, refl, sym, ap, _∙_}
+use mathlib.Core.Logic.{⊎-elim}
+use mathlib.Core.Bool.{Bool, true, false, cond}
+use mathlib.Core.List.{List}
+use Prim.Native.Nat.{ℕ, zero, suc, _+_, _-_, _≤_, _<_}
+use native.Mathlib.Nat.{eq-or-lt-of-le}
+use native.Mathlib.Decide.{decLe}
+use native.Mathlib.Numerals.{add-one}
+use native.Mathlib.Omega.{arith}
+use borrow.Author.Tests.{lt-ltb, le-ltb, ltb-true, ltb-false, eqb-true, eqb-false, eq-eqb, ne-eqb}
+use lib.Dec.{eqb, ltb}
+use Rattle.lattice.specs.Lists.{at}
+use Rattle.net.specs.Net.{Net, places}
+use Rattle.net.specs.Delay.{branches, branch, ownLoad, branchesLoad, loadUnder, stageLoad}
+use Rattle.net.specs.Places.{drivenLoad, placeLoad, LoadsFrom}
+use Rattle.net.proofs.Places.{segment-load, stage-load}
+use Rattle.links.specs.Links.{Linked, siblings}
+use Rattle.links.proofs.Siblings.{siblings-none, siblings-step, siblings-branches, first-behind}
+use Rattle.place.specs.Partial.{linkedSum, nodeSum, drivenBy}
+
+module _ (net : Net) (next values : List ℕ) (rises : (i : ℕ) → i < net .segments → i < at next i) where
+  -- as many steps as there are segments left are enough
+  enough : (d e j : ℕ) → net .segments ≤ j + d → net .segments ≤ j + e → linkedSum net next values d j ≡ linkedSum net next values e j
+  unfolding linkedSum
+  enough zero zero j h k = refl
+  enough zero (suc e) j h k = let l : net .segments ≤ j = omega arith in rw (le-ltb j (net .segments) l)
+  enough (suc d) zero j h k = let l : net .segments ≤ j = omega arith in rw (le-ltb j (net .segments) l)
+  enough (suc d) (suc e) j h k = go (ltb j (net .segments)) refl (λ m. let r = rises j m in enough d e (at next j) (omega arith) (omega arith))
+    where
+      go : (b : Bool) → ltb j (net .segments) ≡ b → (j < net .segments → linkedSum net next values d (at next j) ≡ linkedSum net next values e (at next j))
+          → cond b (at values (net .stages + j) + linkedSum net next values d (at next j)) 0
+          ≡ cond b (at values (net .stages + j) + linkedSum net next values e (at next j)) 0
+      go true t rest = ap (λ (s : ℕ). at values (net .stages + j) + s) (rest (ltb-true j (net .segments) t))
+      go false t rest = refl
+
+  once : (d j : ℕ) → j < net .segments → linkedSum net next values (suc d) j ≡ at values (net .stages + j) + linkedSum net next values d (at next j)
+  unfolding linkedSum
+  once d j h = rw (lt-ltb j (net .segments) h)
+
+  pub linked-step : (j : ℕ) → j < net .segments
+      → linkedSum net next values (net .segments) j ≡ at values (net .stages + j) + linkedSum net next values (net .segments) (at next j)
+  linked-step j h =
+      let r = rises j h in
+      enough (net .segments) (suc (net .segments)) j (omega arith) (omega arith) ∙ once (net .segments) j h
+
+  pub linked-end : (d j : ℕ) → net .segments ≤ j → linkedSum net next values d j ≡ 0
+  unfolding linkedSum
+  linked-end zero j h = refl
+  linked-end (suc d) j h = rw (le-ltb j (net .segments) h)
+
+-- the links of a net rise
+pub linked-rises : (net : Net) (first next : List ℕ) → Linked net first next → (i : ℕ) → i < net .segments → i < at next i
+linked-rises net first next l i h = l .nexts i h .from
+
+module _ (net : Net) (falls : (i : ℕ) → i < net .segments → net .parent i ≤ i) (first next values : List ℕ) (l : Linked net first next) (own : ℕ → ℕ) where
+  -- `values` has the branches of the segments from j on, each by what its segments own
+  linked-siblings : (d j : ℕ) → j ≤ net .segments → net .segments ≤ j + d → ((i : ℕ) → j ≤ i → i < net .segments → at values (net .stages + i) ≡ branch net own i)
+      → linkedSum net next values d j ≡ siblings net own j
+  linked-siblings zero j k h v = let e : j ≡ net .segments = omega arith in linked-end net next values (linked-rises net first next l) 0 j (omega arith) ∙ sym (siblings-none net own j e)
+  linked-siblings (suc d) j k h v = go (decLe (net .segments) j) (λ m. let n = l .nexts j m in linked-siblings d (at next j) (n .within) (omega (arith, n .from)) (λ i a b. v i (omega (arith, n .from)) b))
+    where
+      go : Dec (net .segments ≤ j) → (j < net .segments → linkedSum net next values d (at next j) ≡ siblings net own (at next j)) → linkedSum net next values (suc d) j ≡ siblings net own j
+      go (yes m) rest = linked-end net next values (linked-rises net first next l) (suc d) j m ∙ sym (siblings-none net own j (omega arith))
+      go (no m) rest =
+          let n : j < net .segments = omega arith in
+          let a = once net next values (linked-rises net first next l) d j n in
+          let b = siblings-step net falls own j (at next j) n (l .nexts j n) in
+          let e = v j (omega arith) n in
+          let r = rest n in
+          omega arith
+
+  pub node-branches : (q : ℕ) → q ≤ net .segments → ((i : ℕ) → q ≤ i → i < net .segments → at values (net .stages + i) ≡ branch net own i)
+      → nodeSum net first next values q ≡ branches net own q
+  node-branches q h v =
+      let f = l .firsts q h in
+      let b = first-behind net falls q (at first q) h f in
+      linked-siblings (net .segments) (at first q) (f .within) (omega arith) (λ i a m. v i (omega arith) m)
+      ∙ sym (siblings-branches net falls own q (at first q) h f)
+
+-- The load that a place drives, from the loads of the places after it.
+module _ (net : Net) (falls : (i : ℕ) → i < net .segments → net .parent i ≤ i) (first next loads : List ℕ) (l : Linked net first next) (x : List ℕ) where
+  node-load : (q p : ℕ) → q ≤ net .segments → p ≤ net .stages + q → LoadsFrom net x p loads → nodeSum net first next loads q ≡ branchesLoad net x q
+  node-load q p h m a =
+      node-branches net falls first next loads l (ownLoad net x) q h (λ i b n. a .held (net .stages + i) (omega arith) (omega arith) ∙ segment-load net x i)
+
+  pub driven-is : (p : ℕ) → p < places net → LoadsFrom net x (suc p) loads → drivenBy net first next loads p ≡ drivenLoad net x p
+  unfolding drivenBy drivenLoad stageLoad
+  driven-is p h a = go (ltb p (net .stages)) refl
+    where
+      stage : p < net .stages → (b : Bool) → eqb (suc p) (net .stages) ≡ b
+          → cond b (nodeSum net first next loads 0) (at loads (suc p)) ≡ cond b (branchesLoad net x 0) (net .gate (at x (suc p)))
+      stage m true e = node-load 0 (suc p) (omega arith) (omega arith) a
+      stage m false e =
+          let n : suc p < net .stages = omega (arith, eqb-false (suc p) (net .stages) e) in
+          a .held (suc p) (omega arith) (omega arith) ∙ stage-load net x (suc p) n
+
+      go : (b : Bool) → ltb p (net .stages) ≡ b
+          → cond b (cond (eqb (suc p) (net .stages)) (nodeSum net first next loads 0) (at loads (suc p))) (net .sink (p - net .stages) + nodeSum net first next loads (suc (p - net .stages)))
+          ≡ cond b (cond (eqb (suc p) (net .stages)) (branchesLoad net x 0) (net .gate (at x (suc p)))) (loadUnder net x (p - net .stages))
+      go true t = stage (ltb-true p (net .stages) t) (eqb (suc p) (net .stages)) refl
+      go false t =
+          let m = ltb-false p (net .stages) t in
+          ap (λ (s : ℕ). net .sink (p - net .stages) + s) (node-load (suc (p - net .stages)) (suc p) (omega arith) (omega arith) a)
+
+-- By cases: the last stage, a stage before it, a segment.
+module _ (net : Net) (first next loads : List ℕ) where
+  pub driven-last : (s : ℕ) → s < net .stages → s + 1 ≡ net .stages → drivenBy net first next loads s ≡ nodeSum net first next loads 0
+  unfolding drivenBy
+  driven-last s h e = rw (lt-ltb s (net .stages) h, eq-eqb (suc s) (net .stages) (omega arith))
+
+  pub driven-stage : (s : ℕ) → s < net .stages → (s + 1 ≡ net .stages → ⊥) → drivenBy net first next loads s ≡ at loads (s + 1)
+  unfolding drivenBy
+  driven-stage s h n = rw (add-one s, lt-ltb s (net .stages) h, ne-eqb (suc s) (net .stages) (λ e. n (omega arith)))
+
+  pub driven-segment : (p : ℕ) → net .stages ≤ p → drivenBy net first next loads p ≡ net .sink (p - net .stages) + nodeSum net first next loads (p - net .stages + 1)
+  unfolding drivenBy
+  driven-segment p h = rw (le-ltb p (net .stages) h, add-one (p - net .stages))
