@@ -4,6 +4,7 @@ use mathlib.Core.List.{List}
 use Prim.Native.Nat.{ℕ, _+_, _*_, _^_, _<_}
 use Rattle.lattice.specs.Lists.{at}
 use Rattle.net.specs.Net.{Net}
+use Rattle.job.specs.declared.Wire.{Wire}
 use Rattle.job.specs.WireAt.{WireAt}
 use Rattle.elmore.specs.declared.Segment.{Segment}
 use Rattle.elmore.specs.declared.Part.{Part}
@@ -14,25 +15,33 @@ pub record Fields (net : Net) (x : List ℕ) (i : ℕ) (s : Segment) : Type 0 wh
   pub sink : s .sink .0 ≡ net .sink i
   pub wire : WireAt net i (at x (net .stages + i)) (s .wire)
 
--- Twice what a segment's resistance charges, and twice what the segment contributes, where the part u of the tree lies under it.
-abbrev pub charge : Segment → Part → ℕ
-charge s u = s .wire .capacitance .0 + 2 * (s .sink .0 + u .load .0)
+-- Twice what a wire's resistance charges, and twice what the segment contributes, where the load under the segment is l.
+abbrev pub charge : Wire → ℕ → ℕ
+charge w l = w .capacitance .0 + 2 * l
 
-abbrev pub lag : Segment → Part → ℕ
-lag s u = s .wire .resistance .0 * charge s u
+abbrev pub lag : Wire → ℕ → ℕ
+lag w l = w .resistance .0 * charge w l
 
--- All of this is below 2 ^ 63.
+-- Both are below 2 ^ 63.
+pub record RoomCharged (w : Wire) (l : ℕ) : Type 0 where
+  pub charged : charge w l < 2 ^ 63
+  pub lagged : lag w l < 2 ^ 63
+
+-- The load under a segment at whose far end the part u hangs.
+abbrev pub under : Segment → Part → ℕ
+under s u = s .sink .0 + u .load .0
+
+-- A segment with the part at its far end is below 2 ^ 63.
 pub record RoomBehind (s : Segment) (u : Part) : Type 0 where
   pub weight : s .weight + u .weight < 2 ^ 63
-  pub charged : charge s u < 2 ^ 63
-  pub lagged : lag s u < 2 ^ 63
-  pub delay : (s .weight + u .weight) * lag s u + u .delay .0 < 2 ^ 63
+  pub wire : RoomCharged (s .wire) (under s u)
+  pub delay : (s .weight + u .weight) * lag (s .wire) (under s u) + u .delay .0 < 2 ^ 63
 
--- r is the segment with the part under it.
+-- r is the segment with the part at its far end.
 pub record Behind (s : Segment) (u r : Part) : Type 0 where
   pub weight : r .weight ≡ s .weight + u .weight
-  pub load : r .load .0 ≡ s .wire .capacitance .0 + (s .sink .0 + u .load .0)
-  pub delay : r .delay .0 ≡ (s .weight + u .weight) * lag s u + u .delay .0
+  pub load : r .load .0 ≡ s .wire .capacitance .0 + under s u
+  pub delay : r .delay .0 ≡ (s .weight + u .weight) * lag (s .wire) (under s u) + u .delay .0
 
 -- Two parts together are below 2 ^ 63.
 pub record RoomJoined (a b : Part) : Type 0 where

@@ -9,7 +9,7 @@ ghost use Rattle.net.specs.Net.{netBy};
 ghost use Rattle.net.specs.Delay.{branch as branchOf, branches as branchesOf, branchesLoad, stageLoad, stageDelay, stagesDelay, gatesLoad, delay as delayOf};
 ghost use Rattle.links.specs.Links.{Linked, siblings};
 ghost use Rattle.elmore.specs.Ready.{Ready};
-ghost use Rattle.elmore.specs.Step.{Fields, RoomBehind, Behind, RoomJoined, Joined};
+ghost use Rattle.elmore.specs.Step.{Fields, lag, RoomCharged, RoomBehind, Behind, RoomJoined, Joined};
 ghost use Rattle.elmore.specs.Tally.{Tally, FiguresOf};
 
 // A segment with its wire at the sizing's width.
@@ -46,20 +46,30 @@ fn sized(job: &[u8], counts: Counts, sizing: &[u8], i: usize) -> Segment
     }
 }
 
-// A segment with the part of the tree that lies under it.
-fn behind(s: Segment, under: Part) -> Part
-    requires { ⌜ RoomBehind s under ⌝ }
-    ensures { λ r. ⌜ Behind s under r ⌝ }
+// Twice what a segment contributes to every sink behind it, by its wire and the load under it.
+fn segment_delay(wire: Wire, under: Capacitance) -> Delay
+    requires { ⌜ RoomCharged wire (under .0) ⌝ }
+    ensures { λ r. ⌜ r .0 ≡ lag wire (under .0) ⌝ }
 {
-    let weight = s.weight + under.weight;
+    quantity::delay_through(
+        wire.resistance,
+        quantity::charged_twice(wire.capacitance, under),
+    )
+}
+
+// A segment with the part of the tree that hangs at its far end.
+fn behind(s: Segment, part: Part) -> Part
+    requires { ⌜ RoomBehind s part ⌝ }
+    ensures { λ r. ⌜ Behind s part r ⌝ }
+{
+    let weight = s.weight + part.weight;
     let wire = s.wire;
-    let own = wire.capacitance;
-    let below = quantity::add_capacitance(s.sink, under.load);
-    let lag = quantity::delay_through(wire.resistance, quantity::charged_twice(own, below));
+    let under = quantity::add_capacitance(s.sink, part.load);
+    let own = segment_delay(wire, under);
     Part {
         weight: weight,
-        load: quantity::add_capacitance(own, below),
-        delay: quantity::add_delay(quantity::weighted(weight, lag), under.delay),
+        load: quantity::add_capacitance(wire.capacitance, under),
+        delay: quantity::add_delay(quantity::weighted(weight, own), part.delay),
     }
 }
 
@@ -91,8 +101,7 @@ fn branch(
 {
     let s = sized(job, counts, sizing, i);
     let child = first[i + 1];
-    let under = branches(job, counts, first, next, sizing, child);
-    behind(s, under)
+    behind(s, branches(job, counts, first, next, sizing, child))
 }
 
 // Segment j and its siblings after it, each with all below it; past the last segment there is none.

@@ -152,13 +152,7 @@ pub fn step(
 }
 
 // The weight of the sinks at or below each segment's far end, from the last segment to the first.
-fn weigh_segments(
-    job: &[u8],
-    counts: Counts,
-    first: &[usize],
-    next: &[usize],
-    weights: &mut [u64],
-)
+fn weigh_segments(job: &[u8], counts: Counts, first: &[usize], next: &[usize], weights: &mut [u64])
     requires { ⌜ Checked counts (now job) ⌝ }
     requires { ⌜ Linked (netBy counts (now job)) (now first) (now next) ⌝ }
     requires { ⌜ counts .stages + counts .segments ≤ length (now weights) ⌝ }
@@ -174,13 +168,7 @@ fn weigh_segments(
 }
 
 // The weights of the stages, each twice that of all sinks, where those of the segments are known.
-fn weigh_stages(
-    job: &[u8],
-    counts: Counts,
-    first: &[usize],
-    next: &[usize],
-    weights: &mut [u64],
-)
+fn weigh_stages(job: &[u8], counts: Counts, first: &[usize], next: &[usize], weights: &mut [u64])
     requires { ⌜ Checked counts (now job) ⌝ }
     requires { ⌜ Linked (netBy counts (now job)) (now first) (now next) ⌝ }
     requires { ⌜ WeightsFrom (netBy counts (now job)) (counts .stages) (now weights) ⌝ }
@@ -196,13 +184,7 @@ fn weigh_stages(
 }
 
 // The weights of all places.
-pub fn weigh(
-    job: &[u8],
-    counts: Counts,
-    first: &[usize],
-    next: &[usize],
-    weights: &mut [u64],
-)
+pub fn weigh(job: &[u8], counts: Counts, first: &[usize], next: &[usize], weights: &mut [u64])
     requires { ⌜ Checked counts (now job) ⌝ }
     requires { ⌜ Linked (netBy counts (now job)) (now first) (now next) ⌝ }
     requires { ⌜ counts .stages + counts .segments ≤ length (now weights) ⌝ }

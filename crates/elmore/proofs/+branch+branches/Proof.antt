@@ -1,9 +1,9 @@
--- `elmore::branch` and `elmore::branches` meet their contracts. Each step is a lemma of `Tallies`; a child and a sibling have larger numbers, so what
--- is left of the segments falls.
+-- `elmore::branch` and `elmore::branches` meet their contracts: each step is a lemma of `Tallies`, and a child and a sibling have larger numbers,
+-- so that fewer segments are left.
 use Prim.Native.Nat.{ℕ, _+_, _*_, _-_, _<_}
 use native.Mathlib.Omega.{arith}
 use borrow.Author.Needs.{needs}
-use Rattle.net.proofs.Questions.{ordered, limited}
+use Rattle.net.proofs.Questions.{ordered}
 use Rattle.links.proofs.Siblings.{first-behind}
 use Rattle.elmore.proofs.Tallies.{behind-room, behind-tally, joined-room, joined-tally, none-tally}
 use borrow.Fn.Kinds.{In}
@@ -71,7 +71,7 @@ branch-behind-requires t c κs =
     let b = c .before .before .before .before .before .before .before in
     let a = b .args in
     let r = b .pre .1 .0 in
-    behind-room (ordered (r .checked)) (limited (r .checked)) (r .inRanges) (a .i) _ (b .pre .1 .1 .1) (b .pre .1 .1 .0 .firsts (a .i + 1) (omega arith))
+    behind-room r (a .i) _ (b .pre .1 .1 .1) (b .pre .1 .1 .0 .firsts (a .i + 1) (omega arith))
     _ _ (c .before .before .sized .ensures) (c .branches .ensures)
 
 branch-returns : (t : ℕ) → branch-lts.Need-returns (branch-claims t) (branch-at t) branch.Post
@@ -79,7 +79,7 @@ branch-returns t c =
     let b = c .before .before .before .before .before .before .before .before in
     let a = b .args in
     let r = b .pre .1 .0 in
-    behind-tally (ordered (r .checked)) (limited (r .checked)) (r .inRanges) (a .i) _ (b .pre .1 .1 .1) (b .pre .1 .1 .0 .firsts (a .i + 1) (omega arith))
+    behind-tally r (a .i) _ (b .pre .1 .1 .1) (b .pre .1 .1 .0 .firsts (a .i + 1) (omega arith))
     _ _ (c .before .before .before .sized .ensures) (c .before .branches .ensures) _ (c .behind .ensures)
 
 branches-returns : (t : ℕ) → branches-lts.Need-returns (branches-claims t) (branches-at t) branches.Post
@@ -110,7 +110,7 @@ branches-joined-requires t c κs =
     let a = b .args in
     let r = b .pre .1 .0 in
     let l : a .j < a .counts .segments = omega arith in
-    joined-room (ordered (r .checked)) (limited (r .checked)) (r .inRanges) (a .j) _ l (b .pre .1 .1 .0 .nexts (a .j) l)
+    joined-room r (a .j) _ l (b .pre .1 .1 .0 .nexts (a .j) l)
     _ _ (c .before .before .branch .ensures) (c .branches .ensures)
 
 branches-returns-2 : (t : ℕ) → branches-lts.Need-returns-2 (branches-claims t) (branches-at t) branches.Post
@@ -119,7 +119,7 @@ branches-returns-2 t c =
     let a = b .args in
     let r = b .pre .1 .0 in
     let l : a .j < a .counts .segments = omega arith in
-    joined-tally (ordered (r .checked)) (limited (r .checked)) (r .inRanges) (a .j) _ l (b .pre .1 .1 .0 .nexts (a .j) l)
+    joined-tally r (a .j) _ l (b .pre .1 .1 .0 .nexts (a .j) l)
     _ _ (c .before .before .before .branch .ensures) (c .before .branches .ensures) _ (c .joined .ensures)
 
 pub +branch+branches-spec : {M : Type 1} → statement M

@@ -1,7 +1,7 @@
 -- `elmore::behind` meets its contract: what it asks gives each sum and product its room.
-use mathlib.Core.Path.{_≡_}
+use mathlib.Core.Path.{_≡_, ap, _∙_}
 use native.Mathlib.Omega.{arith}
-use Rattle.elmore.specs.Step.{charge, lag}
+use Rattle.elmore.specs.Step.{lag, under}
 use borrow.Author.Needs.{needs}
 use Rattle.elmore.proofs.behind.Statement.{statement}
 use Rattle.elmore.proofs.behind.Tie as tie
@@ -12,34 +12,33 @@ add-weight c = search needs
 add-capacitance-requires : tie.Need-add-capacitance-requires
 add-capacitance-requires c κs = search needs
 
-charged-twice-requires : tie.Need-charged-twice-requires
-charged-twice-requires c κs = search needs
-
-delay-through-requires : tie.Need-delay-through-requires
-delay-through-requires c κs =
-    let b = c .before .before .before .before .before .before in
-    let e : c .charged-twice .result .0 ≡ charge (b .args .s) (b .args .under) = cc in
-    rw e (b .pre .lagged)
+segment-delay-requires : tie.Need-segment-delay-requires
+segment-delay-requires c κs =
+    let b = c .before .before .before .before in
+    rw (c .add-capacitance .ensures .0) (b .pre .wire)
 
 add-capacitance-requires-2 : tie.Need-add-capacitance-requires-2
 add-capacitance-requires-2 c κs = search needs
 
 weighted-requires : tie.Need-weighted-requires
 weighted-requires c κs =
-    let b = c .before .before .before .before .before .before .before .before in
-    let e : c .before .delay-through .result .0 ≡ lag (b .args .s) (b .args .under) = cc in
+    let b = c .before .before .before .before .before .before in
+    let e : c .before .segment-delay .result .0 ≡ lag (b .args .s .wire) (under (b .args .s) (b .args .part)) =
+    c .before .segment-delay .ensures ∙ ap (lag (b .args .s .wire)) (c .before .before .add-capacitance .ensures .0) in
     rw e (omega (arith, b .pre .delay))
 
 add-delay-requires : tie.Need-add-delay-requires
 add-delay-requires c κs =
-    let b = c .before .before .before .before .before .before .before .before .before in
-    let e : c .before .before .delay-through .result .0 ≡ lag (b .args .s) (b .args .under) = cc in
+    let b = c .before .before .before .before .before .before .before in
+    let e : c .before .before .segment-delay .result .0 ≡ lag (b .args .s .wire) (under (b .args .s) (b .args .part)) =
+    c .before .before .segment-delay .ensures ∙ ap (lag (b .args .s .wire)) (c .before .before .before .add-capacitance .ensures .0) in
     omega (arith, rw e at (c .weighted .ensures .0), b .pre .delay)
 
 returns : tie.Need-returns
 returns c =
-    let b = c .before .before .before .before .before .before .before .before .before .before in
-    let e : c .before .before .before .delay-through .result .0 ≡ lag (b .args .s) (b .args .under) = cc in
+    let b = c .before .before .before .before .before .before .before .before in
+    let e : c .before .before .before .segment-delay .result .0 ≡ lag (b .args .s .wire) (under (b .args .s) (b .args .part)) =
+    c .before .before .before .segment-delay .ensures ∙ ap (lag (b .args .s .wire)) (c .before .before .before .before .add-capacitance .ensures .0) in
     record { weight = omega arith; load = omega arith; delay = omega (arith, rw e at (c .before .weighted .ensures .0)) }
 
 pub behind-spec : {M : Type 1} → statement M
@@ -48,8 +47,7 @@ behind-spec =
     (tie.spec
     add-weight
     add-capacitance-requires
-    charged-twice-requires
-    delay-through-requires
+    segment-delay-requires
     add-capacitance-requires-2
     weighted-requires
     add-delay-requires

@@ -19,8 +19,7 @@ weighted-requires c κs =
 weighted-requires-2 : tie.Need-weighted-requires-2
 weighted-requires-2 c κs =
     let b = c .before .before .before .before in
-    let k = b .pre .0 .checked in
-    rw (c .weighted .ensures .0) (whole-driven (ordered k) (limited k) (b .pre .0 .inRanges) _ (b .pre .1) _ (c .before .stages .ensures))
+    rw (c .weighted .ensures .0) (whole-driven (b .pre .0) _ (b .pre .1) _ (c .before .stages .ensures))
 
 add-delay-requires : tie.Need-add-delay-requires
 add-delay-requires c κs =
@@ -28,7 +27,7 @@ add-delay-requires c κs =
     let k = b .pre .0 .checked in
     omega (
       arith,
-      whole-delay (ordered k) (limited k) (b .pre .0 .inRanges) _ (b .pre .1) _ (c .before .before .stages .ensures),
+      whole-delay (b .pre .0) _ (b .pre .1) _ (c .before .before .stages .ensures),
       delay-fits _ (ordered k) (limited k) _ (b .pre .0 .inRanges),
       rw (c .before .weighted .ensures .0) at (c .weighted2 .ensures .0),
     )
@@ -36,10 +35,9 @@ add-delay-requires c κs =
 returns : tie.Need-returns
 returns c =
     let b = c .before .before .before .before .before .before in
-    let k = b .pre .0 .checked in
     omega (
       arith,
-      whole-delay (ordered k) (limited k) (b .pre .0 .inRanges) _ (b .pre .1) _ (c .before .before .before .stages .ensures),
+      whole-delay (b .pre .0) _ (b .pre .1) _ (c .before .before .before .stages .ensures),
       rw (c .before .before .weighted .ensures .0) at (c .before .weighted2 .ensures .0),
     )
 

@@ -23,14 +23,14 @@ add-capacitance-requires c κs =
     omega (
       arith,
       c .gates .ensures,
-      whole-figure (ordered k) _ (c .before .before .whole .ensures),
+      whole-figure (b .pre .0) _ (c .before .before .whole .ensures),
       loadFigure-small _ (ordered k) (limited k) _ (b .pre .0 .inRanges),
     )
 
 returns : tie.Need-returns
 returns c =
     let b = c .before .before .before .before .before .before .before .before in
-    let w = whole-figure (ordered (b .pre .0 .checked)) _ (c .before .before .before .whole .ensures) in
+    let w = whole-figure (b .pre .0) _ (c .before .before .before .whole .ensures) in
     record { delay = c .before .before .driven .ensures; load = omega (arith, c .before .gates .ensures, w) }
 
 pub figures-spec : {M : Type 1} → statement M

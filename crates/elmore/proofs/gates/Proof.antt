@@ -1,17 +1,12 @@
--- `elmore::gates` meets its contract. The loop's invariant: the sum is that of the gates passed.
+-- `elmore::gates` meets its contract; the loop's invariant is that the sum is that of the gates passed.
 use mathlib.Core.Path.{_≡_, ap, _∙_}
 use Prim.Native.Nat.{ℕ, suc, _+_, _-_, _≤_}
-use native.Mathlib.Numerals.{add-one}
 use native.Mathlib.Omega.{arith}
 use borrow.Author.Needs.{needs}
-use Rattle.lattice.specs.Lists.{at}
-use Rattle.lattice.specs.Lists.{sum as total}
+use Rattle.lattice.specs.Lists.{at, sum as total}
 use Rattle.net.specs.Net.{netBy}
 use Rattle.net.specs.Delay.{gatesLoad}
-use Rattle.net.proofs.Sum.{sum-suc}
-use Rattle.net.proofs.Bound.{gates-small}
-use Rattle.net.proofs.Questions.{ordered, limited}
-use Rattle.elmore.proofs.Drives.{size-held}
+use Rattle.elmore.proofs.Drives.{size-held, gates-step, gates-room}
 use Rattle.elmore.proofs.gates.Statement.{statement}
 use Rattle.elmore.proofs.gates.Tie as tie
 
@@ -42,14 +37,8 @@ gate-requires c κs =
 
 add-capacitance-requires : tie.Need-add-capacitance-requires Inv-loop μ-loop
 add-capacitance-requires c κs =
-    let b = c .before .before .before .before .before .before .before in
-    let net = netBy (b .args .counts) (b .args .job .now) in
-    let x = b .args .sizing .now in
-    let s = c .before .before .before .before .loop .s in
-    let e : c .gate .result .0 ≡ net .gate (at x (s + 1)) = cc in
-    let f : ℕ → ℕ = λ r. net .gate (at x (suc r)) in
-    let k = b .pre .checked in
-    omega (arith, rw (add-one s) at e, sum-suc s f, gates-small net (ordered k) (limited k) x (b .pre .inRanges) (suc s) (omega arith))
+    let l = c .before .before .before .before .loop in
+    gates-room (c .before .before .before .before .before .before .before .pre) (l .s) _ _ _ (omega arith) (l .inv .1) (c .before .index-at .ensures .0) (c .gate .ensures)
 
 add-s : tie.Need-add-s Inv-loop μ-loop
 add-s c = search needs
@@ -59,13 +48,10 @@ loop-less c = search needs
 
 loop-again : tie.Need-loop-again Inv-loop μ-loop
 loop-again c =
-    let b = c .before .before .before .before .before .before .before .before in
-    let net = netBy (b .args .counts) (b .args .job .now) in
-    let x = b .args .sizing .now in
-    let s = c .before .before .before .before .before .loop .s in
-    let e : c .before .gate .result .0 ≡ net .gate (at x (s + 1)) = cc in
-    let f : ℕ → ℕ = λ r. net .gate (at x (suc r)) in
-    (omega arith, rw (add-one s) (omega (arith, rw (add-one s) at e, sum-suc s f)))
+    let l = c .before .before .before .before .before .loop in (
+      omega arith,
+      c .add-capacitance .ensures .0 ∙ gates-step (c .before .before .before .before .before .before .before .before .pre) (l .s) _ _ _ (omega arith) (l .inv .1) (c .before .before .index-at .ensures .0) (c .before .gate .ensures),
+    )
 
 returns : tie.Need-returns Inv-loop μ-loop
 unfolding gatesLoad

@@ -23,7 +23,12 @@ wire-at-requires c κs =
     (b .pre .0 .checked .held, (b .pre .1, omega (arith, width-held (b .pre .0) (b .args .i) (b .pre .1))))
 
 returns : tie.Need-returns
-returns c = record { weight = cc; sink = cc; wire = rw (c .before .before .before .index-at .ensures .0) at (c .wire-at .ensures) }
+returns c =
+    record {
+      weight = c .before .before .weight .ensures;
+      sink = c .before .sink .ensures;
+      wire = rw (c .before .before .before .index-at .ensures .0) at (c .wire-at .ensures);
+    }
 
 pub sized-spec : {M : Type 1} → statement M
 sized-spec =

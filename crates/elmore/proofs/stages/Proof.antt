@@ -1,14 +1,11 @@
--- `elmore::stages` meets its contract. The loop's invariant: the sum is that of the stages passed.
+-- `elmore::stages` meets its contract; the loop's invariant is that the sum is that of the stages passed.
 use mathlib.Core.Path.{_≡_, ap, _∙_}
-use Prim.Native.Nat.{ℕ, suc, _≤_, _-_}
-use native.Mathlib.Numerals.{add-one}
+use Prim.Native.Nat.{ℕ, _≤_, _-_}
 use native.Mathlib.Omega.{arith}
 use Rattle.lattice.specs.Lists.{sum as total}
 use Rattle.net.specs.Net.{netBy}
 use Rattle.net.specs.Delay.{stageDelay, stagesDelay}
-use Rattle.net.proofs.Sum.{sum-suc}
-use Rattle.net.proofs.Questions.{ordered, limited}
-use Rattle.net.proofs.Bound.{stages-small}
+use Rattle.elmore.proofs.Drives.{stages-step, stages-room}
 use borrow.Author.Needs.{needs}
 use Rattle.elmore.proofs.stages.Statement.{statement}
 use Rattle.elmore.proofs.stages.Tie as tie
@@ -28,12 +25,8 @@ stage-requires c κs = search needs
 
 add-delay-requires : tie.Need-add-delay-requires Inv-loop μ-loop
 add-delay-requires c κs =
-    let b = c .before .before .before .before .before .before in
-    let n = netBy (b .args .counts) (b .args .job .now) in
-    let k = b .pre .0 .checked in
-    let x = b .args .sizing .now in
-    let s = c .before .before .before .loop .s in
-    omega (arith, sum-suc s (stageDelay n x), stages-small n (ordered k) (limited k) x (b .pre .0 .inRanges) (suc s) (omega arith))
+    let l = c .before .before .before .loop in
+    stages-room (c .before .before .before .before .before .before .pre .0) (l .s) _ _ (omega arith) (l .inv .1) (c .stage .ensures)
 
 add-s : tie.Need-add-s Inv-loop μ-loop
 add-s c = search needs
@@ -43,10 +36,8 @@ loop-less c = search needs
 
 loop-again : tie.Need-loop-again Inv-loop μ-loop
 loop-again c =
-    let b = c .before .before .before .before .before .before .before in
-    let n = netBy (b .args .counts) (b .args .job .now) in
-    let s = c .before .before .before .before .loop .s in
-    (omega arith, rw (add-one s) (omega (arith, sum-suc s (stageDelay n (b .args .sizing .now)))))
+    let l = c .before .before .before .before .loop in
+    (omega arith, c .add-delay .ensures .0 ∙ stages-step (c .before .before .before .before .before .before .before .pre .0) (l .s) _ _ (omega arith) (l .inv .1) (c .before .stage .ensures))
 
 returns : tie.Need-returns Inv-loop μ-loop
 unfolding stagesDelay

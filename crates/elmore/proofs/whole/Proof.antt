@@ -1,6 +1,5 @@
 -- `elmore::whole` meets its contract: the whole tree hangs at the source.
 use native.Mathlib.Omega.{arith}
-use Rattle.net.proofs.Questions.{ordered}
 use Rattle.elmore.proofs.Tallies.{node-tally}
 use borrow.Author.Needs.{needs}
 use Rattle.elmore.proofs.whole.Statement.{statement}
@@ -16,8 +15,7 @@ branches-requires c κs =
 returns : tie.Need-returns
 returns c =
     let b = c .before .before .before .before .before .before in
-    let k = b .pre .0 .checked in
-    node-tally (ordered k) 0 _ _ (omega arith) (b .pre .1 .firsts 0 (omega arith)) (c .branches .ensures)
+    node-tally (b .pre .0) 0 _ _ (omega arith) (b .pre .1 .firsts 0 (omega arith)) (c .branches .ensures)
 
 pub whole-spec : {M : Type 1} → statement M
 whole-spec = tie.close (tie.spec shared-slice-read-root branches-requires returns)

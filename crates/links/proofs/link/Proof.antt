@@ -1,4 +1,4 @@
--- `links::link` meets its contract. The loop's invariant: the segments from j on are linked.
+-- `links::link` meets its contract; the loop's invariant is that the segments from j on are linked.
 use mathlib.Core.Path.{_≡_, refl, _∙_}
 use Prim.Native.Nat.{suc, _-_, _≤_}
 use native.Mathlib.Omega.{arith}

@@ -1,4 +1,4 @@
--- `links::unlink` meets its contract. The loop's invariant: the entries passed say that there is none.
+-- `links::unlink` meets its contract; the loop's invariant is that the entries passed say that there is none.
 use mathlib.Core.Path.{_≡_}
 use Prim.Native.Nat.{_+_, _-_, _≤_, _<_}
 use native.Mathlib.Omega.{arith}

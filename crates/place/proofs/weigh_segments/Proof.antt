@@ -51,7 +51,7 @@ add-weights c =
     omega (arith, turn-small (netBy (b .args .counts) (b .args .job .now)) (ordered (b .pre .0)) (limited (b .pre .0)) (b .args .first .now) (b .args .next .now) (l .weights) (b .pre .1 .0) (l .i) (omega arith) (l .inv .1) (l .inv .0), c .weight .ensures, b .pre .0 .weights (l .i - 1) (omega arith))
 
 add-weights-2 : tie.Need-add-weights-2 Inv-loop μ-loop
-add-weights-2 c =  let l = c .before .before .before .before .before .before .loop .inv in omega (arith, l .0 .long)
+add-weights-2 c = let l = c .before .before .before .before .before .before .loop .inv in omega (arith, l .0 .long)
 
 mul-weights : tie.Need-mul-weights Inv-loop μ-loop
 mul-weights c = search needs
@@ -69,7 +69,7 @@ loop-again c =
     (turn (netBy (b .args .counts) (b .args .job .now)) (ordered (b .pre .0)) (limited (b .pre .0)) (b .args .first .now) (b .args .next .now) (l .weights) (b .pre .1 .0) (l .i) (omega arith) (l .inv .1) (l .inv .0) _ (cc), omega arith, length-set (l .weights) _ _ ∙ l .inv .2)
 
 same-length : tie.Need-same-length Inv-loop μ-loop
-same-length c =  c .before .loop .inv .2
+same-length c = c .before .loop .inv .2
 
 returns : tie.Need-returns Inv-loop μ-loop
 returns c =

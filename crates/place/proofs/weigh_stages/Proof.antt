@@ -20,7 +20,7 @@ abbrev μ-loop : tie.MeasureT-loop
 μ-loop job first next weights₀ root all s₀ weights s = s
 
 shared-slice-read-root : tie.Need-shared-slice-read-root Inv-loop μ-loop
-shared-slice-read-root c =  omega (arith, c .before .before .before .before .before .pre .1 .0 .nodes)
+shared-slice-read-root c = omega (arith, c .before .before .before .before .before .pre .1 .0 .nodes)
 
 linked-sum-requires : tie.Need-linked-sum-requires Inv-loop μ-loop
 linked-sum-requires c κs =
@@ -33,7 +33,7 @@ mul-all c =
     omega (arith, c .linked-sum .ensures, node-weight-small (netBy (b .args .counts) (b .args .job .now)) (ordered (b .pre .0)) (limited (b .pre .0)) (b .args .first .now) (b .args .next .now) (b .args .weights .now) (b .pre .1 .0) 0 (omega arith) (rw (add-zero (b .args .counts .stages)) (b .pre .1 .1)))
 
 loop-holds : tie.Need-loop-holds Inv-loop μ-loop
-loop-holds c =  filled-start _ _ _
+loop-holds c = filled-start _ _ _
 
 sub-s : tie.Need-sub-s Inv-loop μ-loop
 sub-s c = search needs
@@ -57,7 +57,7 @@ loop-again c =
     filled-step _ _ _ (c .before .loop .s) (c .before .loop .weights) (omega arith) (omega (arith, f .few, f .long, b .pre .1 .1 .long)) f
 
 same-length : tie.Need-same-length Inv-loop μ-loop
-same-length c =  c .before .loop .inv .long
+same-length c = c .before .loop .inv .long
 
 returns : tie.Need-returns Inv-loop μ-loop
 returns c =

@@ -1,0 +1,67 @@
+-- A sweep of refining, place by place: what its loop knows, and that a sweep that changes nothing has come to the bound.
+use mathlib.Core.Path.{_≡_, _∙_, refl, sym, ap, subst}
+use mathlib.Core.Bool.{Bool, true, false, not, _||_, true≢false, false≢true}
+use mathlib.Core.List.{List}
+use Prim.Native.Nat.{ℕ, _+_, _<_}
+use native.Mathlib.Omega.{arith}
+use lib.Dec.{eqb}
+use lib.ListN.{length, set, length-set}
+use lib.Seq.{set-getD}
+use borrow.Author.Count.{below-more}
+use borrow.Author.Tests.{eqb-true, eqb-false}
+use Rattle.lattice.specs.Side.{Side}
+use Rattle.lattice.specs.Lists.{at}
+use Rattle.lattice.specs.Space.{Space, Lattice, Submodular}
+use Rattle.lattice.specs.Refine.{bound, refine, slack, Approaching}
+use Rattle.lattice.proofs.Refining.{at-set, approaching-step, approaching-stop}
+use Rattle.lattice.proofs.Theorems.{approaching-slack}
+use Rattle.bounds.specs.Sweep.{Swept}
+
+-- a step keeps the length
+pub refined-long : (s : Side) (sp : Space) (D : List ℕ → ℕ) (x y : List ℕ) (p : ℕ) → y ≡ refine s sp D x p → length y ≡ length x
+unfolding refine
+refined-long s sp D x y p e = ap length e ∙ length-set x p _
+
+module _ {s : Side} {sp : Space} {D : List ℕ → ℕ} where
+  pub swept-start : (x : List ℕ) → Approaching s sp D x → Swept s sp D x 0 x false
+  swept-start x a = record { approaching = a; closer = λ e. absurd (false≢true e); same = λ e. refl; still = λ e p h. absurd (omega arith) }
+
+  -- an index has changed
+  changed : (x₀ : List ℕ) (n : ℕ) (x : List ℕ) → Approaching s sp D x → slack s sp x < slack s sp x₀ → Swept s sp D x₀ n x true
+  changed x₀ n x a l = record { approaching = a; closer = λ e. l; same = λ e. absurd (true≢false e); still = λ e. absurd (true≢false e) }
+
+module _ {sp : Space} {D : List ℕ → ℕ} (la : Lattice sp) (sub : Submodular sp D) (s : Side) where
+  -- where the index of a place stays, the sizing stays
+  stays : (x : List ℕ) → Approaching s sp D x → (p : ℕ) → p < sp .places → at (refine s sp D x p) p ≡ at x p → refine s sp D x p ≡ x
+  unfolding refine
+  stays x a p h e = ap (λ v. set x p v) (sym (at-set la x (a .allowed) p h _) ∙ e) ∙ set-getD x p 0
+
+  -- one place more
+  pub swept-step : (x₀ x y : List ℕ) (p : ℕ) (c : Bool) → Swept s sp D x₀ p x c → p < sp .places → y ≡ refine s sp D x p
+      → Swept s sp D x₀ (p + 1) y (c || not (eqb (at y p) (at x p)))
+  swept-step x₀ x y p c i h e = go c i (eqb (at y p) (at x p)) refl
+    where
+      a : Approaching s sp D y
+      a = rw e (approaching-step la sub s x (i .approaching) p h)
+
+      kept : eqb (at y p) (at x p) ≡ true → y ≡ x
+      kept f = e ∙ stays x (i .approaching) p h (ap (λ z. at z p) (sym e) ∙ eqb-true _ _ f)
+
+      moved : eqb (at y p) (at x p) ≡ false → slack s sp y < slack s sp x
+      moved f = rw e (approaching-slack la sub s x (i .approaching) p h (λ g. eqb-false (at y p) (at x p) f (ap (λ z. at z p) (e ∙ g))))
+
+      go : (d : Bool) → Swept s sp D x₀ p x d → (b : Bool) → eqb (at y p) (at x p) ≡ b → Swept s sp D x₀ (p + 1) y (d || not b)
+      go true j true f = changed x₀ (p + 1) y a (rw (kept f) (j .closer refl))
+      go true j false f = changed x₀ (p + 1) y a (omega (arith, moved f, j .closer refl))
+      go false j true f =
+          record {
+            approaching = a;
+            closer = λ g. absurd (false≢true g);
+            same = λ g. kept f ∙ j .same refl;
+            still = λ g. subst (λ z. (q : ℕ) → q < p + 1 → refine s sp D z q ≡ z) (sym (kept f)) (below-more _ p (j .still refl) (sym e ∙ kept f));
+          }
+      go false j false f = changed x₀ (p + 1) y a (rw (j .same refl) at (moved f))
+
+  -- a sweep that changed nothing
+  pub swept-end : {x₀ x : List ℕ} {c : Bool} → Swept s sp D x₀ (sp .places) x c → c ≡ false → x ≡ bound s sp D
+  swept-end {x = x} i e = approaching-stop la sub s x (i .approaching) (i .still e)

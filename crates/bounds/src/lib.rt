@@ -1,0 +1,120 @@
+// The lower and the upper bound of a net, found by refining at each place until no index changes, and the room between them.
+use net::Counts;
+use refine::Side;
+ghost use mathlib.Core.Path.{_≡_};
+ghost use Prim.Native.Nat.{suc, _+_, _-_, _<_, _≤_};
+ghost use lib.Dec.{leb};
+ghost use lib.ListN.{length};
+ghost use Rattle.lattice.specs.Lists.{at, every, product};
+ghost use Rattle.lattice.specs.Refine.{bound as boundOf, Approaching};
+ghost use Rattle.net.specs.Net.{netBy};
+ghost use Rattle.net.specs.Delay.{delay};
+ghost use Rattle.net.specs.Sizings.{allowed};
+ghost use Rattle.net.specs.Checked.{Checked};
+ghost use Rattle.links.specs.Links.{Linked};
+ghost use Rattle.refine.specs.Sides.{sideOf};
+ghost use Rattle.bounds.specs.Sweep.{firstAt, Swept};
+ghost use Rattle.bounds.specs.Between.{Between};
+
+// The first index of place p, seen from a side.
+fn first_at(job: &[u8], counts: Counts, p: usize, side: Side) -> u8
+    requires { ⌜ Checked counts (now job) ⌝ }
+    requires { ⌜ p < counts .stages + counts .segments ⌝ }
+    ensures { λ r. ⌜ r ≡ firstAt (sideOf side) (netBy counts (now (job .entry))) p ⌝ }
+{
+    match side {
+        Side::Below => job::lowest(job, counts, p),
+        Side::Above => job::highest(job, counts, p),
+    }
+}
+
+// Puts the first index at each place: where refining starts.
+fn start(job: &[u8], counts: Counts, x: &mut [u8], side: Side)
+    requires { ⌜ Checked counts (now job) ⌝ }
+    requires { ⌜ length (now x) ≡ counts .stages + counts .segments ⌝ }
+    ensures { λ r. ⌜ Approaching (sideOf side) (allowed (netBy counts (now (job .entry)))) (delay (netBy counts (now (job .entry)))) (now (x .exit)) ⌝ }
+{
+    let places = counts.stages + counts.segments;
+    let mut p = 0;
+    while p < places {
+        x[p] = first_at(job, counts, p, side);
+        p += 1;
+    }
+}
+
+// Refines at each place in turn, and tells whether an index changed.
+fn sweep(
+    job: &[u8],
+    counts: Counts,
+    first: &[usize],
+    next: &[usize],
+    x: &mut [u8],
+    side: Side,
+) -> bool
+    requires { ⌜ Checked counts (now job) ⌝ }
+    requires { ⌜ Linked (netBy counts (now job)) (now first) (now next) ⌝ }
+    requires { ⌜ Approaching (sideOf side) (allowed (netBy counts (now job))) (delay (netBy counts (now job))) (now x) ⌝ }
+    ensures { λ r. ⌜ Swept (sideOf side) (allowed (netBy counts (now (job .entry)))) (delay (netBy counts (now (job .entry)))) (now (x .entry)) (counts .stages + counts .segments) (now (x .exit)) r ⌝ }
+{
+    let places = counts.stages + counts.segments;
+    let mut changed = false;
+    let mut p = 0;
+    while p < places {
+        let before = x[p];
+        refine::settle(job, counts, first, next, x, p, side);
+        changed = changed | (x[p] != before);
+        p += 1;
+    }
+    changed
+}
+
+// The bound from a side, whatever x held before.
+pub fn bound(job: &[u8], counts: Counts, first: &[usize], next: &[usize], x: &mut [u8], side: Side)
+    requires { ⌜ Checked counts (now job) ⌝ }
+    requires { ⌜ Linked (netBy counts (now job)) (now first) (now next) ⌝ }
+    requires { ⌜ length (now x) ≡ counts .stages + counts .segments ⌝ }
+    ensures { λ r. ⌜ now (x .exit) ≡ boundOf (sideOf side) (allowed (netBy counts (now (job .entry)))) (delay (netBy counts (now (job .entry)))) ⌝ }
+{
+    start(job, counts, x, side);
+    while sweep(job, counts, first, next, x, side) {}
+}
+
+// Question 13: is the lower bound at most the upper at each place?
+pub fn in_order(lower: &[u8], upper: &[u8], n: usize) -> bool
+    requires { ⌜ (n ≤ length (now lower)) × (n ≤ length (now upper)) ⌝ }
+    ensures { λ r. ⌜ r ≡ every n (λ p. leb (at (now (lower .entry)) p) (at (now (upper .entry)) p)) ⌝ }
+{
+    let mut p = 0;
+    while p < n {
+        if !(lower[p] <= upper[p]) {
+            return false;
+        }
+        p += 1;
+    }
+    true
+}
+
+// How many indices there are from a to b, both included.
+fn choices(a: u8, b: u8) -> u64
+    requires { ⌜ a ≤ b ⌝ }
+    ensures { λ r. ⌜ (r ≡ suc (b - a)) × (r ≤ 256) ⌝ }
+{
+    (b - a) as u64 + 1
+}
+
+// Is room, the product of the numbers of indices between the bounds, at most 65,536?
+pub fn room_fits(lower: &[u8], upper: &[u8], n: usize) -> bool
+    requires { ⌜ Between n (now lower) (now upper) ⌝ }
+    ensures { λ r. ⌜ r ≡ leb (product n (λ p. suc (at (now (upper .entry)) p - at (now (lower .entry)) p))) 65536 ⌝ }
+{
+    let mut room = 1;
+    let mut p = 0;
+    while p < n {
+        room = room * choices(lower[p], upper[p]);
+        if room > 65536 {
+            return false;
+        }
+        p += 1;
+    }
+    true
+}

@@ -1,0 +1,28 @@
+-- What is kept with one more sizing, in each of the three ways its delay compares to the least.
+use mathlib.Core.Path.{_≡_}
+use mathlib.Core.List.{List, _++_, append-nil}
+use Prim.Native.Nat.{ℕ, _<_, _≤_}
+use native.Mathlib.Omega.{arith}
+use borrow.Author.Tests.{lt-ltb, le-ltb, eq-eqb, ne-eqb}
+use lib.ListN.{length, take as front, drop, drop-of-length-le}
+use lib.Seq.{take-length}
+use Rattle.lattice.specs.Space.{meet, join}
+use Rattle.lattice.specs.Search.{take}
+use Rattle.envelope.specs.Kept.{found}
+
+-- a list copied over one of its length
+pub copied : (x y : List ℕ) → length x ≡ length y → front (length x) x ++ drop (length x) y ≡ x
+copied x y e = rw (take-length x, drop-of-length-le y {i = length x} (omega arith)) (append-nil x)
+
+module _ (x : List ℕ) (d least : ℕ) (lean wide : List ℕ) where
+  pub keep-less : d < least → found d x x ≡ take x d (found least lean wide)
+  unfolding take
+  keep-less h = rw (lt-ltb d least h)
+
+  pub keep-tie : least ≤ d → d ≡ least → found least (meet x lean) (join x wide) ≡ take x d (found least lean wide)
+  unfolding take
+  keep-tie h e = rw (le-ltb d least h, eq-eqb d least e)
+
+  pub keep-more : least ≤ d → (d ≡ least → ⊥) → found least lean wide ≡ take x d (found least lean wide)
+  unfolding take
+  keep-more h e = rw (le-ltb d least h, ne-eqb d least e)

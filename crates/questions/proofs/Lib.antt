@@ -1,0 +1,4 @@
+pub mod Regroup
+pub mod Counting
+pub mod Branches
+pub mod Numbers

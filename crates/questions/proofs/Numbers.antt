@@ -1,0 +1,148 @@
+-- The number of the first question that fails, found by asking one question after another.
+use mathlib.Core.Path.{_≡_, _∙_, refl, sym}
+use mathlib.Core.Bool.{Bool, true, false, not, cond}
+use mathlib.Core.List.{List, [], _∷_, _++_}
+use Prim.Native.Nat.{ℕ, zero, suc, _≤_, _%_}
+use native.Mathlib.Nat.{div-add-mod'}
+use native.Mathlib.Omega.{arith}
+use borrow.Author.Tests.{not-true, not-false}
+use lib.Dec.{T, leb, ltb, eqb, leb→le, ltb→lt, eqb→eq}
+use lib.ListN.{length}
+use Rattle.lattice.proofs.ListLaws.{and-T, every-at}
+use Rattle.net.specs.declared.Counts.{Counts}
+use Rattle.net.specs.Job.{records, countsOf, segmentParent}
+use Rattle.net.specs.Net.{netBy}
+use Rattle.net.specs.Questions.{inRange, question1, question2, question3, question4, question5, question6, question7, question8, question9, question10, question11, Question, ask, firstNo, jobQuestions, refusal}
+use Rattle.net.specs.Checked.{Held}
+use Rattle.net.proofs.Questions.{in-range, counts-held, checked}
+use Rattle.links.specs.Links.{Parents, Linked}
+use Rattle.questions.specs.declared.Outcome.{Outcome}
+use Rattle.questions.specs.Records.{countsTo}
+use Rattle.questions.specs.Check.{CheckOf, Linkable, Asked, questionsFrom7, questionsFrom3, Counted}
+
+-- r is the answer to the question q, the first of those that are left: yes, and a later one decides; or no
+pub yes : (m : ℕ) (qs : List Question) {q r : Bool} {n : ℕ} → r ≡ q → not r ≡ false → n ≡ firstNo qs → n ≡ firstNo (ask m q ∷ qs)
+unfolding firstNo
+yes m qs {q} {r} e t h = rw (sym e ∙ not-false r t) h
+
+pub no : (m : ℕ) (qs : List Question) {q r : Bool} → r ≡ q → not r ≡ true → m ≡ firstNo (ask m q ∷ qs)
+unfolding firstNo
+no m qs {q} {r} e t = rw (sym e ∙ not-true r t)
+
+pub none : 0 ≡ firstNo []
+unfolding firstNo
+none = refl
+
+-- What question 3 gives.
+in-counts : (c : Counts) {r : Bool} → r ≡ question3 c → not r ≡ false → (1 ≤ c .widths) × (1 ≤ c .sizes) × (1 ≤ c .stages) × (c .segments ≤ 64)
+unfolding question3
+in-counts c {r} e t =
+    let y : T (question3 c) = rw (sym e ∙ not-false r t) tt in
+    let w = and-T (inRange 1 8 (c .widths)) _ y in
+    let s = and-T (inRange 1 16 (c .sizes)) _ (w .1) in
+    let g = and-T (inRange 1 4 (c .stages)) (inRange 1 64 (c .segments)) (s .1) in
+    (in-range 1 8 _ (w .0) .0, in-range 1 16 _ (s .0) .0, in-range 1 4 _ (g .0) .0, in-range 1 64 _ (g .1) .1)
+
+pub some-counted : {c : Counts} {b : List ℕ} {r : Bool} → Held c b → r ≡ question3 c → not r ≡ false → Counted c b
+some-counted {c} {b} {r} h e t =
+    let i = in-counts c e t in
+    record { held = h; someWidth = i .0; someSize = i .1; someStage = i .2 }
+
+-- What question 1 gives: there is a record.
+pub some-record : (b : List ℕ) {r : Bool} → r ≡ question1 b → not r ≡ false → 1 ≤ records b
+unfolding question1
+some-record b {r} e t =
+    let a = and-T (ltb 0 (length b)) (eqb (_%_ (length b) 16) 0) (rw (sym e ∙ not-false r t) tt) in
+    omega (arith, ltb→lt 0 (length b) (a .0), eqb→eq (_%_ (length b) 16) 0 (a .1), div-add-mod' (length b) 16)
+
+-- The records that are counted are there.
+pub counted-held : (b : List ℕ) {c : Counts} → c ≡ countsTo b (records b) → Held c b
+unfolding countsOf
+counted-held b e = rw e (counts-held b)
+
+-- A number that is found among some questions is that of all.
+found : (qs rs : List Question) (n : ℕ) → suc n ≡ firstNo qs → suc n ≡ firstNo (qs ++ rs)
+unfolding firstNo
+found [] rs n e = absurd (omega arith)
+found (q ∷ qs) rs n e = go (q .passed) (λ h. found qs rs n h) e
+  where
+    go : (p : Bool) → (suc n ≡ firstNo qs → suc n ≡ firstNo (qs ++ rs)) → suc n ≡ cond p (firstNo qs) (q .number) → suc n ≡ cond p (firstNo (qs ++ rs)) (q .number)
+    go true rest h = rest h
+    go false rest h = h
+
+parents : (c : Counts) (b : List ℕ) → true ≡ question9 c b → Parents (netBy c b)
+unfolding question9
+parents c b e = record { falls = λ i h. leb→le _ _ (every-at (c .segments) (λ j. leb (segmentParent c b j) j) (rw (sym e) tt) i h) }
+
+-- where no question fails, the first passes and so do the rest
+passed : (n : ℕ) (q : Bool) (qs : List Question) → firstNo (ask (suc n) q ∷ qs) ≡ 0 → (true ≡ q) × (firstNo qs ≡ 0)
+unfolding firstNo
+passed n true qs e = (refl, e)
+passed n false qs e = absurd (omega arith)
+
+last : (q : Bool) → cond q 0 11 ≡ firstNo (ask 11 q ∷ [])
+unfolding firstNo
+last q = refl
+
+refused : (b : List ℕ) (r : Outcome) (n : ℕ) → r .number ≡ suc n → suc n ≡ refusal b → Asked b r
+refused b r n e f = record { fails = λ h. e ∙ f; passes = λ z. absurd (omega (arith, e, z)) }
+
+-- p and q are the answers to questions 1 and 2
+module _ (b : List ℕ) {p : Bool} (one : p ≡ question1 b) where
+  pub refused-1 : (r : Outcome) → r .number ≡ 1 → not p ≡ true → Asked b r
+  unfolding refusal jobQuestions
+  refused-1 r e t = refused b r 0 e (no _ _ one t)
+
+  module _ {q : Bool} (t : not p ≡ false) (two : q ≡ question2 b) where
+    pub refused-2 : (r : Outcome) → r .number ≡ 2 → not q ≡ true → Asked b r
+    unfolding refusal jobQuestions
+    refused-2 r e u = refused b r 1 e (yes _ _ one t (no _ _ two u))
+
+    module _ (u : not q ≡ false) where
+      abbrev c : Counts
+      c = countsOf b
+
+      linkable : firstNo (questionsFrom3 c b) ≡ 0 → Linkable c b
+      unfolding questionsFrom3 questionsFrom7 refusal jobQuestions
+      linkable e =
+          let a3 = passed 2 (question3 c) _ e in
+          let a4 = passed 3 (question4 c b) _ (a3 .1) in
+          let a5 = passed 4 (question5 c b) _ (a4 .1) in
+          let a6 = passed 5 (question6 c b) _ (a5 .1) in
+          let a7 = passed 6 (question7 c b) _ (a6 .1) in
+          let a8 = passed 7 (question8 c b) _ (a7 .1) in
+          let a9 = passed 8 (question9 c b) _ (a8 .1) in
+          let a10 = passed 9 (question10 c b) _ (a9 .1) in
+          record {
+            counted = refl;
+            held = counts-held b;
+            few = in-counts c (a3 .0) refl .3;
+            parents = parents c b (a9 .0);
+            decides = yes _ _ one t (yes _ _ two u (yes _ _ (a3 .0) refl (yes _ _ (a4 .0) refl (yes _ _ (a5 .0) refl (yes _ _ (a6 .0) refl (yes _ _ (a7 .0) refl (yes _ _ (a8 .0) refl (yes _ _ (a9 .0) refl (yes _ _ (a10 .0) refl (last (question11 c b)))))))))));
+          }
+
+      later : (n : ℕ) → n ≡ firstNo (questionsFrom3 c b) → (n ≡ 0 → ⊥) → n ≡ refusal b
+      unfolding questionsFrom3 questionsFrom7 refusal jobQuestions
+      later zero e h = absurd (h refl)
+      later (suc n) e h = yes _ _ one t (yes _ _ two u (found (questionsFrom3 c b) (ask 11 (question11 c b) ∷ []) n e))
+
+      pub asked-from-3 : (d : Counts) (n : ℕ) → d ≡ countsTo b (records b) → n ≡ firstNo (questionsFrom3 d b) → Asked b (record { number = n; counts = d })
+      unfolding countsOf
+      asked-from-3 d n e f = rw e record { fails = later n (rw e at f); passes = λ z. linkable (sym (rw e at f) ∙ z) }
+
+-- What `check` says, by how it ends.
+module _ {b : List ℕ} {r : Outcome} (a : Asked b r) {first next : List ℕ} where
+  pub check-early : (r .number ≡ 0 → ⊥) → CheckOf b r first next
+  check-early h = record { number = a .fails h; passed = λ e. absurd (h e); linked = λ e. absurd (h e) }
+
+  module _ (z : r .number ≡ 0) {p : Bool} (e : p ≡ question11 (r .counts) b) where
+    pub check-eleven : not p ≡ true → CheckOf b (record { number = 11; counts = r .counts }) first next
+    check-eleven t =
+        let f : question11 (r .counts) b ≡ false = sym e ∙ not-true p t in
+        record { number = rw f at (a .passes z .decides); passed = λ n. absurd (omega (arith, n)); linked = λ n. absurd (omega (arith, n)) }
+
+    pub check-passed : not p ≡ false → Linked (netBy (r .counts) b) first next → CheckOf b r first next
+    check-passed t l =
+        let f : question11 (r .counts) b ≡ true = sym e ∙ not-false p t in
+        let d = rw f at (a .passes z .decides) in
+        record { number = z ∙ d; passed = λ n. rw (a .passes z .counted) (checked b (sym d)); linked = λ n. l }

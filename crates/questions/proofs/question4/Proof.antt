@@ -1,0 +1,43 @@
+-- `questions::question4` meets its contract: the tests of each run, put together, are the definition.
+use borrow.Author.Needs.{needs}
+use Rattle.questions.proofs.Regroup.{question4-by}
+use Rattle.questions.proofs.question4.Statement.{statement}
+use Rattle.questions.proofs.question4.Tie as tie
+
+add-places : tie.Need-add-places
+add-places c = search needs
+
+numbers-in-order-requires : tie.Need-numbers-in-order-requires
+numbers-in-order-requires c κs = search needs
+
+numbers-in-order-requires-2 : tie.Need-numbers-in-order-requires-2
+numbers-in-order-requires-2 c κs = search needs
+
+numbers-in-order-requires-3 : tie.Need-numbers-in-order-requires-3
+numbers-in-order-requires-3 c κs = search needs
+
+add-numbers-in-order : tie.Need-add-numbers-in-order
+add-numbers-in-order c = search needs
+
+numbers-in-order-requires-4 : tie.Need-numbers-in-order-requires-4
+numbers-in-order-requires-4 c κs = search needs
+
+returns : tie.Need-returns
+returns c =
+    question4-by _ _
+    (c .before .before .before .before .numbers-in-order .ensures)
+    (c .before .before .before .numbers-in-order2 .ensures)
+    (c .before .before .numbers-in-order3 .ensures)
+    (c .numbers-in-order4 .ensures)
+
+pub question4-spec : {M : Type 1} → statement M
+question4-spec =
+    tie.close
+    (tie.spec
+    add-places
+    numbers-in-order-requires
+    numbers-in-order-requires-2
+    numbers-in-order-requires-3
+    add-numbers-in-order
+    numbers-in-order-requires-4
+    returns)

@@ -1,0 +1,53 @@
+-- `questions::question5` meets its contract: the tests of each run, put together, are the definition.
+use borrow.Author.Needs.{needs}
+use Rattle.questions.proofs.Regroup.{question5-by}
+use Rattle.questions.proofs.question5.Statement.{statement}
+use Rattle.questions.proofs.question5.Tie as tie
+
+add-places : tie.Need-add-places
+add-places c = search needs
+
+add-wires : tie.Need-add-wires
+add-wires c = search needs
+
+bytes-zero-requires : tie.Need-bytes-zero-requires
+bytes-zero-requires c κs = search needs
+
+bytes-zero-requires-2 : tie.Need-bytes-zero-requires-2
+bytes-zero-requires-2 c κs = search needs
+
+bytes-zero-requires-3 : tie.Need-bytes-zero-requires-3
+bytes-zero-requires-3 c κs = search needs
+
+bytes-zero-requires-4 : tie.Need-bytes-zero-requires-4
+bytes-zero-requires-4 c κs = search needs
+
+bytes-zero-requires-5 : tie.Need-bytes-zero-requires-5
+bytes-zero-requires-5 c κs = search needs
+
+sinks-or-none-requires : tie.Need-sinks-or-none-requires
+sinks-or-none-requires c κs = search needs
+
+returns : tie.Need-returns
+returns c =
+    question5-by _ _
+    (c .before .before .before .before .before .bytes-zero .ensures)
+    (c .before .before .before .before .bytes-zero2 .ensures)
+    (c .before .before .before .bytes-zero3 .ensures)
+    (c .before .before .bytes-zero4 .ensures)
+    (c .before .bytes-zero5 .ensures)
+    (c .sinks-or-none .ensures)
+
+pub question5-spec : {M : Type 1} → statement M
+question5-spec =
+    tie.close
+    (tie.spec
+    add-places
+    add-wires
+    bytes-zero-requires
+    bytes-zero-requires-2
+    bytes-zero-requires-3
+    bytes-zero-requires-4
+    bytes-zero-requires-5
+    sinks-or-none-requires
+    returns)

@@ -1,0 +1,47 @@
+-- `questions::questions_from_1` meets its contract: the first no decides, and where there is none the job can be linked.
+use mathlib.Core.Path.{refl}
+use borrow.Author.Needs.{needs}
+use Rattle.questions.proofs.Numbers.{some-record, counted-held, refused-1, refused-2, asked-from-3}
+use Rattle.questions.proofs.questions_from_1.Statement.{statement}
+use Rattle.questions.proofs.questions_from_1.Tie as tie
+
+question1-requires : tie.Need-question1-requires
+question1-requires c κs = search needs
+
+uncounted-requires : tie.Need-uncounted-requires
+uncounted-requires c κs = search needs
+
+returns : tie.Need-returns
+returns c = refused-1 _ (c .before .before .question1 .ensures) _ (c .uncounted .ensures) (c .before .if1 .taken)
+
+question2-requires : tie.Need-question2-requires
+question2-requires c κs = (refl, some-record _ (c .before .question1 .ensures) (c .if1 .left))
+
+uncounted-requires-2 : tie.Need-uncounted-requires-2
+uncounted-requires-2 c κs = search needs
+
+returns-2 : tie.Need-returns-2
+returns-2 c = refused-2 _ (c .before .before .before .before .question1 .ensures) (c .before .before .before .if1 .left) (c .before .before .question2 .ensures) _ (c .uncounted2 .ensures) (c .before .if2 .taken)
+
+count-requires : tie.Need-count-requires
+count-requires c κs = search needs
+
+questions-from-3-requires : tie.Need-questions-from-3-requires
+questions-from-3-requires c κs = counted-held _ (c .count .ensures)
+
+returns-3 : tie.Need-returns-3
+returns-3 c = asked-from-3 _ (c .before .before .before .before .before .question1 .ensures) (c .before .before .before .before .if1 .left) (c .before .before .before .question2 .ensures) (c .before .before .if2 .left) _ _ (c .before .count .ensures) (c .questions-from-3 .ensures)
+
+pub questions-from-1-spec : {M : Type 1} → statement M
+questions-from-1-spec =
+    tie.close
+    (tie.spec
+    question1-requires
+    uncounted-requires
+    returns
+    question2-requires
+    uncounted-requires-2
+    returns-2
+    count-requires
+    questions-from-3-requires
+    returns-3)

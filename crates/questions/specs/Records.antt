@@ -1,0 +1,66 @@
+-- Tests of one record, which the questions ask of each record of a run. A run starts at the record `start`; k is a record's place in it, from 0.
+use mathlib.Core.Bool.{Bool, not, _&&_, _||_}
+use mathlib.Core.List.{List}
+use Prim.Native.Nat.{ℕ, _+_, _*_}
+use lib.Dec.{leb, ltb, eqb}
+use lib.ListN.{getD}
+use Rattle.lattice.specs.Lists.{every}
+use Rattle.net.specs.Job.{byte, word, kind, count}
+use Rattle.net.specs.Questions.{inRange}
+use Rattle.net.specs.declared.Counts.{Counts}
+
+module _ (b : List ℕ) where
+  -- The byte and the word at `at` of a record.
+  abbrev pub byteOf : ℕ → ℕ → ℕ → ℕ
+  byteOf start at k = byte b (16 * (start + k) + at)
+
+  abbrev pub wordOf : ℕ → ℕ → ℕ → ℕ
+  wordOf start at k = word b (16 * (start + k) + at)
+
+  -- Is the kind of record r at most that of the next?
+  abbrev pub kindInOrder : ℕ → Bool
+  kindInOrder r = leb (kind b r) (kind b (r + 1))
+
+  -- Is the number of a record its place in the run?
+  abbrev pub numberInOrder : ℕ → ℕ → Bool
+  numberInOrder start k = eqb (byteOf start 1 k) k
+
+  -- Are the n bytes from p on zero?
+  abbrev pub zeroFrom : ℕ → ℕ → Bool
+  zeroFrom p n = every n (λ i. eqb (byte b (p + i)) 0)
+
+  -- Are the n bytes from `at` on of a record zero?
+  abbrev pub zeroBytes : ℕ → ℕ → ℕ → ℕ → Bool
+  zeroBytes start at n k = zeroFrom (16 * (start + k) + at) n
+
+  -- Is the byte at `at` from l to h?
+  abbrev pub byteWithin : ℕ → ℕ → ℕ → ℕ → ℕ → Bool
+  byteWithin start at l h k = inRange l h (byteOf start at k)
+
+  -- Is the word at `at` from l to h?
+  abbrev pub wordWithin : ℕ → ℕ → ℕ → ℕ → ℕ → Bool
+  wordWithin start at l h k = inRange l h (wordOf start at k)
+
+  -- Is the word at `at` in the run from `low` on below that in the run from `high` on?
+  abbrev pub wordBelow : ℕ → ℕ → ℕ → ℕ → Bool
+  wordBelow low high at k = ltb (wordOf low at k) (wordOf high at k)
+
+  -- Is the byte at `at` at most the next one, and that one below n?
+  abbrev pub rangeWithin : ℕ → ℕ → ℕ → ℕ → Bool
+  rangeWithin start at n k = leb (byteOf start at k) (byteOf start (at + 1) k) && ltb (byteOf start (at + 1) k) n
+
+  -- Is a segment's parent byte at most its own number?
+  abbrev pub parentInOrder : ℕ → ℕ → Bool
+  parentInOrder start k = leb (byteOf start 2 k) k
+
+  -- Has a segment a sink, or neither sink capacitance nor weight?
+  abbrev pub sinkOrNone : ℕ → ℕ → Bool
+  sinkOrNone start k = not (eqb (byteOf start 3 k) 0) || (eqb (wordOf start 8 k) 0 && eqb (byteOf start 12 k) 0)
+
+  -- Has a segment a sink, or, by the first segment at each node, one of n segments at its far end?
+  abbrev pub sinkOrBranch : List ℕ → ℕ → ℕ → ℕ → Bool
+  sinkOrBranch first start n k = not (eqb (byteOf start 3 k) 0) || ltb (getD first (k + 1) 0) n
+
+  -- The counts of the first n records by kind.
+  abbrev pub countsTo : ℕ → Counts
+  countsTo n = record { widths = count b 1 n; sizes = count b 2 n; stages = count b 3 n; segments = count b 4 n }

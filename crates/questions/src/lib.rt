@@ -1,0 +1,247 @@
+// Questions 1 to 11, asked of a job of any length, in time linear in it. Within a question all tests are asked, by `&`: a proof then has one way
+// through it.
+mod runs;
+
+use net::Counts;
+ghost use mathlib.Core.Path.{_≡_};
+ghost use Prim.Native.Nat.{_<_, _≤_};
+ghost use lib.ListN.{length};
+ghost use Rattle.net.specs.Job.{records};
+ghost use Rattle.net.specs.Net.{netBy};
+ghost use Rattle.net.specs.Questions.{question1, question2, question3, question4, question5, question6, question7, question8, question9, question10, question11, firstNo};
+ghost use Rattle.net.specs.Checked.{Held};
+ghost use Rattle.questions.specs.Check.{CheckOf, Asked, questionsFrom7, questionsFrom3, Counted, Firsts};
+
+// The number of the first question that a job fails, 0 where it passes all; and then the counts of its records.
+pub struct Outcome {
+    pub number: usize,
+    pub counts: Counts,
+}
+
+// Question 1: is the length above 0 and a multiple of 16?
+fn question1(job: &[u8]) -> bool
+    ensures { λ r. ⌜ r ≡ question1 (now (job .entry)) ⌝ }
+{
+    (0 < job.len()) & (job.len() % 16 == 0)
+}
+
+// Question 2, of n records: is every kind 1 to 4, never falling?
+fn question2(job: &[u8], n: usize) -> bool
+    requires { ⌜ (n ≡ records (now job)) × (1 ≤ n) ⌝ }
+    ensures { λ r. ⌜ r ≡ question2 (now (job .entry)) ⌝ }
+{
+    let known = runs::bytes_within(job, 0, n, 0, 1, 4);
+    let stays = runs::kinds_in_order(job, n - 1);
+    known & stays
+}
+
+// Question 3: is each kind's count in its range?
+fn question3(counts: Counts) -> bool
+    ensures { λ r. ⌜ r ≡ question3 counts ⌝ }
+{
+    let widths = (1 <= counts.widths) & (counts.widths <= 8);
+    let sizes = (1 <= counts.sizes) & (counts.sizes <= 16);
+    let stages = (1 <= counts.stages) & (counts.stages <= 4);
+    let segments = (1 <= counts.segments) & (counts.segments <= 64);
+    widths & (sizes & (stages & segments))
+}
+
+// Question 4: do numbers count from 0 in each kind?
+fn question4(job: &[u8], counts: Counts) -> bool
+    requires { ⌜ Held counts (now job) ⌝ }
+    ensures { λ r. ⌜ r ≡ question4 counts (now (job .entry)) ⌝ }
+{
+    let places = counts.widths + counts.sizes;
+    let widths = runs::numbers_in_order(job, 0, counts.widths);
+    let sizes = runs::numbers_in_order(job, counts.widths, counts.sizes);
+    let stages = runs::numbers_in_order(job, places, counts.stages);
+    let segments = runs::numbers_in_order(job, places + counts.stages, counts.segments);
+    widths & (sizes & (stages & segments))
+}
+
+// Question 5: are all unnamed bytes zero, and the sink capacitance and weight of every segment whose sink byte is 0?
+fn question5(job: &[u8], counts: Counts) -> bool
+    requires { ⌜ Held counts (now job) ⌝ }
+    ensures { λ r. ⌜ r ≡ question5 counts (now (job .entry)) ⌝ }
+{
+    let places = counts.widths + counts.sizes;
+    let wires = places + counts.stages;
+    let before = runs::bytes_zero(job, 0, counts.widths, 2, 2);
+    let behind = runs::bytes_zero(job, 0, counts.widths, 12, 4);
+    let sizes = runs::bytes_zero(job, counts.widths, counts.sizes, 2, 2);
+    let stages = runs::bytes_zero(job, places, counts.stages, 4, 12);
+    let segments = runs::bytes_zero(job, wires, counts.segments, 15, 1);
+    let sinks = runs::sinks_or_none(job, wires, counts.segments);
+    (before & behind) & (sizes & (stages & (segments & sinks)))
+}
+
+// Question 6: are the values of kinds 1 and 2 in range?
+fn question6(job: &[u8], counts: Counts) -> bool
+    requires { ⌜ Held counts (now job) ⌝ }
+    ensures { λ r. ⌜ r ≡ question6 counts (now (job .entry)) ⌝ }
+{
+    let resistances = runs::words_within(job, 0, counts.widths, 4, 1, 100);
+    let capacitances = runs::words_within(job, 0, counts.widths, 8, 1, 100);
+    let drivers = runs::words_within(job, counts.widths, counts.sizes, 4, 1, 100000);
+    let gates = runs::words_within(job, counts.widths, counts.sizes, 8, 1, 100000);
+    let outputs = runs::words_within(job, counts.widths, counts.sizes, 12, 0, 100000);
+    (resistances & capacitances) & (drivers & (gates & outputs))
+}
+
+// Question 7: in each of the two tables, does resistance strictly fall, and do width capacitance and gate capacitance strictly rise?
+fn question7(job: &[u8], counts: Counts) -> bool
+    requires { ⌜ Counted counts (now job) ⌝ }
+    ensures { λ r. ⌜ r ≡ question7 counts (now (job .entry)) ⌝ }
+{
+    let first = counts.widths;
+    let second = counts.widths + 1;
+    let resistances = runs::words_below(job, 1, 0, counts.widths - 1, 4);
+    let capacitances = runs::words_below(job, 0, 1, counts.widths - 1, 8);
+    let drivers = runs::words_below(job, second, first, counts.sizes - 1, 4);
+    let gates = runs::words_below(job, first, second, counts.sizes - 1, 8);
+    (resistances & capacitances) & (drivers & gates)
+}
+
+// Question 8: is every stage's lowest ≤ highest < count of sizes, with both equal for stage 0?
+fn question8(job: &[u8], counts: Counts) -> bool
+    requires { ⌜ Counted counts (now job) ⌝ }
+    ensures { λ r. ⌜ r ≡ question8 counts (now (job .entry)) ⌝ }
+{
+    let places = counts.widths + counts.sizes;
+    let ranges = runs::ranges_within(job, places, counts.stages, 2, counts.sizes);
+    let lowest = runs::byte_of(job, places, 2, 0);
+    let highest = runs::byte_of(job, places, 3, 0);
+    ranges & (lowest == highest)
+}
+
+// Question 9: is each parent byte at most the segment's own number?
+fn question9(job: &[u8], counts: Counts) -> bool
+    requires { ⌜ Held counts (now job) ⌝ }
+    ensures { λ r. ⌜ r ≡ question9 counts (now (job .entry)) ⌝ }
+{
+    runs::parents_in_order(
+        job,
+        counts.widths + counts.sizes + counts.stages,
+        counts.segments,
+    )
+}
+
+// Question 10: are segment fields in range, capacitance and weight 0 where there is no sink, and lowest ≤ highest < count of widths?
+// A weight is a byte, so it is at most 255.
+fn question10(job: &[u8], counts: Counts) -> bool
+    requires { ⌜ Held counts (now job) ⌝ }
+    ensures { λ r. ⌜ r ≡ question10 counts (now (job .entry)) ⌝ }
+{
+    let start = counts.widths + counts.sizes + counts.stages;
+    let count = counts.segments;
+    let sinks = runs::bytes_within(job, start, count, 3, 0, 1);
+    let lengths = runs::words_within(job, start, count, 4, 1, 1000);
+    let capacitances = runs::words_within(job, start, count, 8, 0, 100000);
+    let none = runs::sinks_or_none(job, start, count);
+    let ranges = runs::ranges_within(job, start, count, 13, counts.widths);
+    sinks & (lengths & (capacitances & (none & ranges)))
+}
+
+// Question 11: has every segment without branches a sink?
+fn question11(job: &[u8], counts: Counts, first: &[usize]) -> bool
+    requires { ⌜ Held counts (now job) ⌝ }
+    requires { ⌜ Firsts (netBy counts (now job)) (now first) ⌝ }
+    ensures { λ r. ⌜ r ≡ question11 counts (now (job .entry)) ⌝ }
+{
+    let start = counts.widths + counts.sizes + counts.stages;
+    runs::sinks_or_branches(job, first, start, counts.segments)
+}
+
+// The number of the first of questions 7 to 10 that a job fails, 0 where it passes them.
+fn questions_from_7(job: &[u8], counts: Counts) -> usize
+    requires { ⌜ Counted counts (now job) ⌝ }
+    ensures { λ r. ⌜ r ≡ firstNo (questionsFrom7 counts (now (job .entry))) ⌝ }
+{
+    if !question7(job, counts) {
+        return 7;
+    }
+    if !question8(job, counts) {
+        return 8;
+    }
+    if !question9(job, counts) {
+        return 9;
+    }
+    if !question10(job, counts) {
+        return 10;
+    }
+    0
+}
+
+// The number of the first of questions 3 to 10 that a job fails, 0 where it passes them.
+fn questions_from_3(job: &[u8], counts: Counts) -> usize
+    requires { ⌜ Held counts (now job) ⌝ }
+    ensures { λ r. ⌜ r ≡ firstNo (questionsFrom3 counts (now (job .entry))) ⌝ }
+{
+    if !question3(counts) {
+        return 3;
+    }
+    if !question4(job, counts) {
+        return 4;
+    }
+    if !question5(job, counts) {
+        return 5;
+    }
+    if !question6(job, counts) {
+        return 6;
+    }
+    questions_from_7(job, counts)
+}
+
+// A job that fails a question before its records are counted.
+fn uncounted(number: usize) -> Outcome
+    ensures { λ r. ⌜ r .number ≡ number ⌝ }
+{
+    Outcome {
+        number: number,
+        counts: Counts {
+            widths: 0,
+            sizes: 0,
+            stages: 0,
+            segments: 0,
+        },
+    }
+}
+
+// The number of the first of questions 1 to 10 that a job fails, 0 where it passes them; and then the counts of its records.
+fn questions_from_1(job: &[u8]) -> Outcome
+    ensures { λ r. ⌜ Asked (now (job .entry)) r ⌝ }
+{
+    let n = job.len() / 16;
+    if !question1(job) {
+        return uncounted(1);
+    }
+    if !question2(job, n) {
+        return uncounted(2);
+    }
+    let counts = runs::count(job, n);
+    let number = questions_from_3(job, counts);
+    Outcome {
+        number: number,
+        counts: counts,
+    }
+}
+
+// The number of the first question that a job fails, 0 where it passes all; and then the counts of its records, and its segments are linked.
+pub fn check(job: &[u8], first: &mut [usize], next: &mut [usize]) -> Outcome
+    requires { ⌜ (64 < length (now first)) × (64 ≤ length (now next)) ⌝ }
+    ensures { λ r. ⌜ CheckOf (now (job .entry)) r (now (first .exit)) (now (next .exit)) ⌝ }
+{
+    let outcome = questions_from_1(job);
+    if outcome.number != 0 {
+        return outcome;
+    }
+    let counts = outcome.counts;
+    links::link(job, counts, first, next);
+    if !question11(job, counts, first) {
+        return Outcome {
+            number: 11,
+            counts: counts,
+        };
+    }
+    outcome
+}
