@@ -1,18 +1,11 @@
 -- What is kept with one more sizing, in each of the three ways its delay compares to the least.
 use mathlib.Core.Path.{_≡_}
-use mathlib.Core.List.{List, _++_, append-nil}
+use mathlib.Core.List.{List}
 use Prim.Native.Nat.{ℕ, _<_, _≤_}
-use native.Mathlib.Omega.{arith}
 use borrow.Author.Tests.{lt-ltb, le-ltb, eq-eqb, ne-eqb}
-use lib.ListN.{length, take as front, drop, drop-of-length-le}
-use lib.Seq.{take-length}
 use Rattle.lattice.specs.Space.{meet, join}
 use Rattle.lattice.specs.Search.{take}
 use Rattle.envelope.specs.Kept.{found}
-
--- a list copied over one of its length
-pub copied : (x y : List ℕ) → length x ≡ length y → front (length x) x ++ drop (length x) y ≡ x
-copied x y e = rw (take-length x, drop-of-length-le y {i = length x} (omega arith)) (append-nil x)
 
 module _ (x : List ℕ) (d least : ℕ) (lean wide : List ℕ) where
   pub keep-less : d < least → found d x x ≡ take x d (found least lean wide)

@@ -15,11 +15,11 @@ use Rattle.net.specs.Questions.{Question, ask, firstNo, jobQuestions, re
 use Rattle.net.specs.Answers.{question15, question16, sizingIn, measureNumber, measured, refineNumber, refined, chooseNumber, firstChosen, chosen}
 
 -- every question has a number above 0
-Numbered : List Question → Type 0
+unfoldable pub Numbered : List Question → Type 0
 Numbered [] = Unit {0}
 Numbered (q ∷ qs) = (1 ≤ q .number) × Numbered qs
 
-firstNo-pass : (xs ys : List Question) → Numbered xs → firstNo xs ≡ 0 → firstNo (xs ++ ys) ≡ firstNo ys
+pub firstNo-pass : (xs ys : List Question) → Numbered xs → firstNo xs ≡ 0 → firstNo (xs ++ ys) ≡ firstNo ys
 unfolding firstNo Numbered
 firstNo-pass [] ys a e = refl
 firstNo-pass (q ∷ xs) ys a e = go (q .passed) e (λ f. firstNo-pass xs ys (a .1) f)
@@ -28,7 +28,7 @@ firstNo-pass (q ∷ xs) ys a e = go (q .passed) e (λ f. firstNo-pass xs ys (a .
     go true f rest = rest f
     go false f rest = absurd (omega (arith, a .0))
 
-firstNo-stop : (xs ys : List Question) → (firstNo xs ≡ 0 → ⊥) → firstNo (xs ++ ys) ≡ firstNo xs
+pub firstNo-stop : (xs ys : List Question) → (firstNo xs ≡ 0 → ⊥) → firstNo (xs ++ ys) ≡ firstNo xs
 unfolding firstNo
 firstNo-stop [] ys n = absurd (n refl)
 firstNo-stop (q ∷ xs) ys n = go (q .passed) n (λ f. firstNo-stop xs ys f)

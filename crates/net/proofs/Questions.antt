@@ -278,23 +278,34 @@ allowed-ranges net x t = let y = allowed-iff net x .0 t in record { long = omega
 unfoldable pub lowestSizing : Net → List ℕ
 lowestSizing net = tabulate (places net) (net .lowest)
 
-module _ (b : List ℕ) (e : refusal b ≡ 0) where
+module _ {c : Counts} {b : List ℕ} (k : Checked c b) where
   -- the instance of the theory: the allowed sizings are closed (`allowed-lattice`) and not empty, and the delay is submodular on them
-  pub job-allowed : Allowed (allowed (netOf b)) (lowestSizing (netOf b))
+  pub checked-allowed : Allowed (allowed (netBy c b)) (lowestSizing (netBy c b))
   unfolding lowestSizing
-  job-allowed =
-      let n = places (netOf b) in
-      let f = netOf b .lowest in
-      allowed-iff (netOf b) (tabulate n f) .1
+  checked-allowed =
+      let n = places (netBy c b) in
+      let f = netBy c b .lowest in
+      allowed-iff (netBy c b) (tabulate n f) .1
       record {
         long = length-tabulate n f;
         low = λ p h. rw (at-tabulate n f p h) (omega arith);
-        high = λ p h. rw (at-tabulate n f p h) (checked b e .ranges p h);
+        high = λ p h. rw (at-tabulate n f p h) (k .ranges p h);
       }
 
-  pub job-submodular : Submodular (allowed (netOf b)) (delay (netOf b))
-  job-submodular = delay-submodular (netOf b) (ordered (checked b e))
+  pub checked-submodular : Submodular (allowed (netBy c b)) (delay (netBy c b))
+  checked-submodular = delay-submodular (netBy c b) (ordered k)
 
   -- every scaled delay is below 2 ^ 63
+  pub checked-fits : (x : List ℕ) → Allowed (allowed (netBy c b)) x → delay (netBy c b) x < 2 ^ 63
+  checked-fits x a = delay-fits (netBy c b) (ordered k) (limited k) x (allowed-ranges (netBy c b) x a)
+
+-- The same of every job that passes questions 1 to 11.
+module _ (b : List ℕ) (e : refusal b ≡ 0) where
+  pub job-allowed : Allowed (allowed (netOf b)) (lowestSizing (netOf b))
+  job-allowed = checked-allowed (checked b e)
+
+  pub job-submodular : Submodular (allowed (netOf b)) (delay (netOf b))
+  job-submodular = checked-submodular (checked b e)
+
   pub job-fits : (x : List ℕ) → Allowed (allowed (netOf b)) x → delay (netOf b) x < 2 ^ 63
-  job-fits x a = delay-fits (netOf b) (ordered (checked b e)) (limited (checked b e)) x (allowed-ranges (netOf b) x a)
+  job-fits = checked-fits (checked b e)

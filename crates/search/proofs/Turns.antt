@@ -1,7 +1,7 @@
 -- The turns of the search's loop over the indices of one place: what each asks, and what it yields.
 use mathlib.Core.Path.{_≡_, refl, sym, ap, _∙_}
 use mathlib.Core.Logic.{⊎-elim}
-use mathlib.Core.List.{List, _∷_, _++_, flatMap}
+use mathlib.Core.List.{List, flatMap}
 use Prim.Native.Nat.{ℕ, zero, suc, _+_, _*_, _-_, _^_, _≤_, _<_}
 use native.Mathlib.Nat.{eq-or-lt-of-le}
 use native.Mathlib.Decide.{decLe}
@@ -12,13 +12,13 @@ use lib.ListN.{length, set, length-set}
 use lib.Seq.{getD-set-same, getD-set-other}
 use Rattle.lattice.specs.Lists.{at, from, span}
 use Rattle.lattice.specs.Space.{Allowed}
-use Rattle.lattice.specs.Search.{Found, take, takes, cover}
+use Rattle.lattice.specs.Search.{Found, takes, cover}
 use Rattle.lattice.proofs.Boxes.{boxed-set}
 use Rattle.lattice.proofs.Searching.{takes-append, cover-same}
-use Rattle.net.specs.Net.{Net, places, netBy}
+use Rattle.net.specs.Net.{Net, places}
 use Rattle.net.specs.Delay.{delay}
 use Rattle.net.specs.Sizings.{allowed}
-use Rattle.net.specs.Places.{placeWeight, delayAt, loadAt, drivenLoad, placeDelay, placeLoad, delayFrom, LoadsFrom}
+use Rattle.net.specs.Places.{placeWeight, delayAt, loadAt, drivenLoad, placeDelay, placeLoad, delayFrom}
 use Rattle.net.specs.Checked.{Ordered, Limited}
 use Rattle.net.proofs.Places.{driven-reads, placeLoad-reads, delayFrom-reads, delayFrom-step, delayFrom-all}
 use Rattle.net.proofs.Bound.{stageLoad-small, branchesLoad-small, delay-fits}

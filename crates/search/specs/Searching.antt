@@ -7,7 +7,6 @@ use Rattle.lattice.specs.Lists.{at}
 use Rattle.lattice.specs.Space.{Allowed}
 use Rattle.lattice.specs.Search.{Found, takes, cover}
 use Rattle.net.specs.declared.Counts.{Counts}
-use Rattle.net.specs.Job.{placesBy}
 use Rattle.net.specs.Net.{Net, places, netBy}
 use Rattle.net.specs.Delay.{delay}
 use Rattle.net.specs.Sizings.{allowed}

@@ -1,6 +1,7 @@
 -- `envelope::keep` meets its contract: it ends in one of the three ways of `Keeping`.
 use native.Mathlib.Omega.{arith}
-use Rattle.envelope.proofs.Keeping.{copied, keep-less, keep-tie, keep-more}
+use Rattle.lattice.proofs.ListLaws.{copied}
+use Rattle.envelope.proofs.Keeping.{keep-less, keep-tie, keep-more}
 use borrow.Author.Needs.{needs}
 use Rattle.envelope.proofs.keep.Statement.{statement}
 use Rattle.envelope.proofs.keep.Tie as tie

@@ -1,14 +1,11 @@
 -- `place::weigh_stages` meets its contract: the loop has the stages passed filled.
-use mathlib.Core.Path.{_≡_, refl, ap, _∙_}
-use Prim.Native.Nat.{ℕ, _+_, _*_, _-_, _≤_, _<_}
+use mathlib.Core.Path.{_≡_, ap, _∙_}
+use Prim.Native.Nat.{ℕ, _*_}
 use native.Mathlib.Nat.{add-zero}
 use native.Mathlib.Omega.{arith}
 use borrow.Author.Needs.{needs}
-use lib.ListN.{length, length-set}
 use Rattle.net.specs.Net.{netBy}
-use Rattle.net.specs.Places.{placeWeight}
 use Rattle.net.proofs.Questions.{ordered, limited}
-use Rattle.place.specs.Partial.{WeightsFrom}
 use Rattle.place.proofs.Weights.{node-weight-small, stage-weighed, Filled, filled-start, filled-step, filled-end}
 use Rattle.place.proofs.weigh_stages.Statement.{statement}
 use Rattle.place.proofs.weigh_stages.Tie as tie

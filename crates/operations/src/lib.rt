@@ -1,0 +1,134 @@
+// measure, refine and choose: three of the four operations, total on every input.
+use elmore::DelayAndLoad;
+use net::Counts;
+use refine::Side;
+ghost use mathlib.Core.Path.{_≡_};
+ghost use mathlib.Core.Bool.{true, false};
+ghost use Prim.Native.Nat.{_+_, _<_};
+ghost use lib.ListN.{length};
+ghost use Rattle.lattice.specs.Space.{Allowed};
+ghost use Rattle.lattice.specs.Refine.{best};
+ghost use Rattle.net.specs.Net.{netBy};
+ghost use Rattle.net.specs.Delay.{delay as delayOf};
+ghost use Rattle.net.specs.Sizings.{allowed as allowedOf};
+ghost use Rattle.net.specs.Checked.{Checked};
+ghost use Rattle.net.specs.Answers.{measured, refined, chosen};
+ghost use Rattle.links.specs.Links.{Linked};
+ghost use Rattle.refine.specs.Sides.{sideOf};
+ghost use Rattle.operations.specs.Outcomes.{measuredBy, refinedBy, measureRefused, refineRefused, fromSecond};
+
+// What measure answers: the figures of the sizing, or the number of the first question that fails.
+pub enum Measurement {
+    Figures(DelayAndLoad),
+    Refused(usize),
+}
+
+// What refine answers: the best index, or the number of the first question that fails.
+pub enum Refinement {
+    Index(u8),
+    Refused(usize),
+}
+
+// The scaled delay and the load figure of a sizing.
+pub fn measure(job: &[u8], sizing: &[u8]) -> Measurement
+    ensures answer { λ r. ⌜ measuredBy r ≡ measured (now (job .entry)) (now (sizing .entry)) ⌝ }
+    ensures refusal { λ r. ⌜ measureRefused r ⌝ }
+{
+    let mut first = [0usize; 65];
+    let mut next = [0usize; 64];
+    let checked = questions::check(job, &mut first, &mut next);
+    if checked.number != 0 {
+        return Measurement::Refused(checked.number);
+    }
+    let counts = checked.counts;
+    let number = allowed::sizing_number(job, counts, sizing);
+    if number != 0 {
+        return Measurement::Refused(number);
+    }
+    Measurement::Figures(elmore::figures(job, counts, &first, &next, sizing))
+}
+
+// The best index at a place of an allowed sizing, which is copied into x.
+fn best_index(
+    job: &[u8],
+    counts: Counts,
+    first: &[usize],
+    next: &[usize],
+    sizing: &[u8],
+    x: &mut [u8],
+    place: usize,
+    side: Side,
+) -> u8
+    requires { ⌜ Checked counts (now job) ⌝ }
+    requires { ⌜ Linked (netBy counts (now job)) (now first) (now next) ⌝ }
+    requires { ⌜ Allowed (allowedOf (netBy counts (now job))) (now sizing) ⌝ }
+    requires { ⌜ length (now sizing) ≡ length (now x) ⌝ }
+    requires { ⌜ place < counts .stages + counts .segments ⌝ }
+    ensures { λ r. ⌜ r ≡ best (sideOf side) (allowedOf (netBy counts (now (job .entry)))) (delayOf (netBy counts (now (job .entry)))) (now (sizing .entry)) place ⌝ }
+{
+    bytes::copy(sizing, x);
+    refine::settle(job, counts, first, next, x, place, side);
+    x[place]
+}
+
+// The best index at a place, the rest of the sizing held.
+pub fn refine(job: &[u8], sizing: &[u8], place: usize, side: Side) -> Refinement
+    ensures answer { λ r. ⌜ refinedBy r ≡ refined (now (job .entry)) (now (sizing .entry)) place (sideOf side) ⌝ }
+    ensures refusal { λ r. ⌜ refineRefused r ⌝ }
+{
+    let mut first = [0usize; 65];
+    let mut next = [0usize; 64];
+    let checked = questions::check(job, &mut first, &mut next);
+    if checked.number != 0 {
+        return Refinement::Refused(checked.number);
+    }
+    let counts = checked.counts;
+    let number = allowed::sizing_number(job, counts, sizing);
+    if number != 0 {
+        return Refinement::Refused(number);
+    }
+    let places = counts.stages + counts.segments;
+    if places <= place {
+        return Refinement::Refused(17);
+    }
+    let mut x = [0u8; 68];
+    let held = &sizing[..places];
+    Refinement::Index(best_index(
+        job,
+        counts,
+        &first,
+        &next,
+        held,
+        &mut x[..places],
+        place,
+        side,
+    ))
+}
+
+// The first P bytes of the one of two sizings that has the smaller delay, as a part of the caller's own slice; at a tie of the first.
+pub fn choose<'a>(job: &[u8], x: &'a [u8], y: &'a [u8]) -> &'a [u8]
+    ensures answer { λ r. ⌜ now r ≡ chosen (now (job .entry)) (now (x .entry)) (now (y .entry)) ⌝ }
+    ensures second { λ r. ⌜ (fromSecond (now (job .entry)) (now (x .entry)) (now (y .entry)) ≡ true → r .ptr ≡ y .entry .ptr) ⌝ }
+    ensures first { λ r. ⌜ (fromSecond (now (job .entry)) (now (x .entry)) (now (y .entry)) ≡ false → r .ptr ≡ x .entry .ptr) ⌝ }
+{
+    let mut first = [0usize; 65];
+    let mut next = [0usize; 64];
+    let checked = questions::check(job, &mut first, &mut next);
+    if checked.number != 0 {
+        return &x[..0];
+    }
+    let counts = checked.counts;
+    if allowed::sizing_number(job, counts, x) != 0 {
+        return &x[..0];
+    }
+    if allowed::sizing_number(job, counts, y) != 0 {
+        return &x[..0];
+    }
+    let places = counts.stages + counts.segments;
+    let of_x = elmore::delay(job, counts, &first, &next, x);
+    let of_y = elmore::delay(job, counts, &first, &next, y);
+    if of_x.0 <= of_y.0 {
+        return &x[..places];
+    }
+    &y[..places]
+}
