@@ -1,0 +1,120 @@
+-- The numbers of size and the buffer at each: every way through the code is the definition.
+use mathlib.Core.Path.{_≡_, refl, sym, ap, subst, _∙_}
+use mathlib.Core.Bool.{Bool, true, false, cond}
+use mathlib.Core.List.{List, [], _∷_, _++_}
+use Prim.Native.Nat.{ℕ, suc, _*_, _-_, _≤_, _<_}
+use native.Mathlib.Omega.{arith}
+use borrow.Author.Tests.{le-leb, lt-leb, ne-eqb}
+use lib.Dec.{leb, lit≤}
+use lib.ListN.{length, drop, replicate}
+use Rattle.lattice.specs.Lists.{at, every, product}
+use Rattle.lattice.specs.Space.{within}
+use Rattle.lattice.specs.Refine as refining
+use Rattle.net.specs.declared.Counts.{Counts}
+use Rattle.net.specs.Net.{Net, places, netBy, netOf}
+use Rattle.net.specs.Sizings.{lowerBound, upperBound, room}
+use Rattle.net.specs.Checked.{Checked}
+use Rattle.net.specs.Questions.{Question, ask, firstNo, jobQuestions, refusal}
+use Rattle.net.specs.Answers.{replyLength, sizeNumber, finishedReply, boundsReply, replyRecords, littleEndian, sizeBuffer}
+use Rattle.net.proofs.Answers.{firstNo-yes, firstNo-no, job-passes, job-fails}
+use Rattle.size.specs.Parts.{Bounded, LeastOf, numberFrom, bufferFrom}
+use Rattle.size.proofs.Parts.{lower-long}
+
+-- questions 13 and 14
+module _ (net : Net) (lower upper : List ℕ) (b : Bounded net lower upper) where
+  pub order-is : every (places net) (λ p. leb (at lower p) (at upper p)) ≡ every (places net) (λ p. leb (at (lowerBound net) p) (at (upperBound net) p))
+  order-is = rw (b .isLower, b .isUpper)
+
+  pub room-is : product (places net) (λ p. suc (at upper p - at lower p)) ≡ room net
+  unfolding refining.room within
+  room-is = rw (b .isLower, b .isUpper)
+
+  pub number-13 : (r : Bool) → r ≡ every (places net) (λ p. leb (at lower p) (at upper p)) → r ≡ false → 13 ≡ numberFrom net
+  unfolding numberFrom
+  number-13 r e f = sym (firstNo-no 13 (ask 14 (leb (room net) 65536) ∷ []) _ (sym order-is ∙ sym e ∙ f))
+
+  module _ (r : Bool) (e : r ≡ every (places net) (λ p. leb (at lower p) (at upper p))) (f : r ≡ true)
+      (t : Bool) (g : t ≡ leb (product (places net) (λ p. suc (at upper p - at lower p))) 65536) where
+    passed-13 : numberFrom net ≡ firstNo (ask 14 (leb (room net) 65536) ∷ [])
+    unfolding numberFrom
+    passed-13 = firstNo-yes 13 (ask 14 (leb (room net) 65536) ∷ []) _ (sym order-is ∙ sym e ∙ f)
+
+    fits-is : t ≡ leb (room net) 65536
+    fits-is = g ∙ ap (λ n. leb n 65536) room-is
+
+    pub number-14 : t ≡ false → 14 ≡ numberFrom net
+    number-14 h = sym (passed-13 ∙ firstNo-no 14 [] _ (sym fits-is ∙ h))
+
+    pub number-0 : t ≡ true → 0 ≡ numberFrom net
+    unfolding firstNo
+    number-0 h = sym (passed-13 ∙ firstNo-yes 14 [] _ (sym fits-is ∙ h))
+
+-- the buffer at each number
+pub buffer-13 : (net : Net) (before : List ℕ) → before ≡ bufferFrom net 13 before
+unfolding bufferFrom
+buffer-13 net before = refl
+
+module _ {c : Counts} {job lower upper : List ℕ} (k : Checked c job) (b : Bounded (netBy c job) lower upper) (before after : List ℕ) where
+  pub buffer-14 : after ≡ replyRecords (length lower) (replicate 8 255) (at lower) (at upper) (λ p. 255) (λ p. 255) ++ drop (8 * suc (length lower)) before
+      → after ≡ bufferFrom (netBy c job) 14 before
+  unfolding bufferFrom boundsReply
+  buffer-14 e = e ∙ rw (lower-long k b, b .isLower, b .isUpper)
+
+  pub buffer-0 : (d : ℕ) (l w : List ℕ) → LeastOf (netBy c job) d l w
+      → after ≡ replyRecords (length lower) (littleEndian 8 d) (at lower) (at upper) (at l) (at w) ++ drop (8 * suc (length lower)) before
+      → after ≡ bufferFrom (netBy c job) 0 before
+  unfolding bufferFrom finishedReply
+  buffer-0 d l w f e = e ∙ rw (lower-long k b, b .isLower, b .isUpper, f .isLeast, f .isLean, f .isWide)
+
+-- the job's own questions
+unfoldable Most : ℕ → List Question → Type 0
+Most m [] = Unit {0}
+Most m (q ∷ qs) = (q .number ≤ m) × Most m qs
+
+firstNo-most : (m : ℕ) (qs : List Question) → Most m qs → firstNo qs ≤ m
+unfolding firstNo Most
+firstNo-most m [] a = omega arith
+firstNo-most m (q ∷ qs) a = go (q .passed) (firstNo-most m qs (a .1))
+  where
+    go : (t : Bool) → firstNo qs ≤ m → cond t (firstNo qs) (q .number) ≤ m
+    go true h = h
+    go false h = a .0
+
+refusal-most : (job : List ℕ) → refusal job ≤ 11
+unfolding refusal jobQuestions Most
+refusal-most job =
+    firstNo-most 11 (jobQuestions job)
+    (lit≤ tt, (lit≤ tt, (lit≤ tt, (lit≤ tt, (lit≤ tt, (lit≤ tt, (lit≤ tt, (lit≤ tt, (lit≤ tt, (lit≤ tt, (lit≤ tt, tt)))))))))))
+
+-- a number other than 0 and 14 leaves the buffer
+untouched : (job before : List ℕ) → (sizeNumber job (length before) ≡ 0 → ⊥) → (sizeNumber job (length before) ≡ 14 → ⊥) → before ≡ sizeBuffer job before
+unfolding sizeBuffer
+untouched job before a b = rw (ne-eqb (sizeNumber job (length before)) 0 a, ne-eqb (sizeNumber job (length before)) 14 b)
+
+module _ (job before : List ℕ) where
+  pub size-job : (n : ℕ) → n ≡ refusal job → (n ≡ 0 → ⊥) → (n ≡ sizeNumber job (length before)) × (before ≡ sizeBuffer job before)
+  unfolding sizeNumber
+  size-job n e z =
+      let f : sizeNumber job (length before) ≡ n = job-fails job _ (λ g. z (e ∙ g)) ∙ sym e in
+      let m : n ≤ 11 = omega (arith, refusal-most job) in
+      (sym f, untouched job before (λ g. z (sym f ∙ g)) (λ g. omega arith))
+
+  module _ {c : Counts} (k : Checked c job) (passes : refusal job ≡ 0) where
+    net-is : netBy c job ≡ netOf job
+    net-is = ap (λ d. netBy d job) (k .counted)
+
+    pub size-12 : length before < replyLength (netBy c job) → (12 ≡ sizeNumber job (length before)) × (before ≡ sizeBuffer job before)
+    unfolding sizeNumber
+    size-12 h =
+        let g : length before < replyLength (netOf job) = subst (λ n. length before < replyLength n) net-is h in
+        let f : sizeNumber job (length before) ≡ 12 = job-passes job _ passes ∙ firstNo-no 12 _ (leb (replyLength (netOf job)) (length before)) (lt-leb _ _ g) in
+        (sym f, untouched job before (λ e. omega arith) (λ e. omega arith))
+
+    pub size-answer : (n : ℕ) (after : List ℕ) → replyLength (netBy c job) ≤ length before → n ≡ numberFrom (netBy c job) → after ≡ bufferFrom (netBy c job) n before
+        → (n ≡ sizeNumber job (length before)) × (after ≡ sizeBuffer job before)
+    unfolding sizeNumber numberFrom bufferFrom sizeBuffer
+    size-answer n after h e f =
+        let g : replyLength (netOf job) ≤ length before = subst (λ m. replyLength m ≤ length before) net-is h in
+        let i : sizeNumber job (length before) ≡ numberFrom (netOf job) = job-passes job _ passes ∙ firstNo-yes 12 _ (leb (replyLength (netOf job)) (length before)) (le-leb _ _ g) in
+        let j : n ≡ sizeNumber job (length before) = e ∙ ap numberFrom net-is ∙ sym i in
+        (j, f ∙ ap (λ m. bufferFrom m n before) net-is ∙ ap (λ m. bufferFrom (netOf job) m before) j)

@@ -1,0 +1,39 @@
+-- `size::bound_and_answer` meets its contract: both bounds are those of the definitions.
+use borrow.Author.Needs.{needs}
+use Rattle.size.proofs.bound_and_answer.Statement.{statement}
+use Rattle.size.proofs.bound_and_answer.Tie as tie
+
+bound-requires : tie.Need-bound-requires
+bound-requires c κs = search needs
+
+bound-requires-2 : tie.Need-bound-requires-2
+bound-requires-2 c κs = search needs
+
+answer-requires : tie.Need-answer-requires
+answer-requires c κs =
+    let b = c .before .before .before .before .before .before .before .before .before .before .before .before .before .before .before .before .before in
+    (b .pre .0, (b .pre .1 .0, (record { isLower = c .before .before .before .before .before .before .before .before .before .bound .ensures; isUpper = c .before .before .before .before .before .bound2 .ensures }, b .pre .1 .1 .1)))
+
+same-length : tie.Need-same-length
+same-length c = search needs
+
+same-length-2 : tie.Need-same-length-2
+same-length-2 c = search needs
+
+same-length-3 : tie.Need-same-length-3
+same-length-3 c = search needs
+
+returns : tie.Need-returns
+returns c = search needs
+
+pub bound-and-answer-spec : {M : Type 1} → statement M
+bound-and-answer-spec =
+    tie.close
+    (tie.spec
+    bound-requires
+    bound-requires-2
+    answer-requires
+    same-length
+    same-length-2
+    same-length-3
+    returns)
