@@ -8,4 +8,5 @@ pub mod Places
 pub mod Questions
 pub mod Answers
 pub mod Demands
+pub mod Promises
 pub mod Starred

@@ -4,6 +4,7 @@ pub mod Net
 pub mod Delay
 pub mod Sizings
 pub mod Answers
+pub mod Promises
 pub mod Starred
 pub mod Segments
 pub mod Places

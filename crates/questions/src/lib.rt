@@ -6,7 +6,7 @@ use net::Counts;
 ghost use mathlib.Core.Path.{_≡_};
 ghost use Prim.Native.Nat.{_<_, _≤_};
 ghost use lib.ListN.{length};
-ghost use Rattle.net.specs.Job.{records};
+ghost use Rattle.net.specs.Job.{records, countsOf};
 ghost use Rattle.net.specs.Net.{netBy};
 ghost use Rattle.net.specs.Questions.{question1, question2, question3, question4, question5, question6, question7, question8, question9, question10, question11, firstNo};
 ghost use Rattle.net.specs.Checked.{Held};
@@ -16,6 +16,13 @@ ghost use Rattle.questions.specs.Check.{CheckOf, Asked, questionsFrom7, 
 pub struct Outcome {
     pub number: usize,
     pub counts: Counts,
+}
+
+// The counts of a job's records by kind, whatever the job.
+pub fn counts(job: &[u8]) -> Counts
+    ensures { λ r. ⌜ r ≡ countsOf (now (job .entry)) ⌝ }
+{
+    runs::count(job, job.len() / 16)
 }
 
 // Question 1: is the length above 0 and a multiple of 16?

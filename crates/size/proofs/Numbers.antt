@@ -16,6 +16,8 @@ use Rattle.net.specs.Sizings.{lowerBound, upperBound, room}
 use Rattle.net.specs.Checked.{Checked}
 use Rattle.net.specs.Questions.{Question, ask, firstNo, jobQuestions, refusal}
 use Rattle.net.specs.Answers.{replyLength, sizeNumber, finishedReply, boundsReply, replyRecords, littleEndian, sizeBuffer}
+use Rattle.net.specs.Promises.{Promises}
+use Rattle.net.proofs.Promises.{promises}
 use Rattle.net.proofs.Answers.{firstNo-yes, firstNo-no, job-passes, job-fails}
 use Rattle.size.specs.Parts.{Bounded, LeastOf, numberFrom, bufferFrom}
 use Rattle.size.proofs.Parts.{lower-long}
@@ -91,30 +93,37 @@ untouched : (job before : List ℕ) → (sizeNumber job (length before) ≡ 0 �
 unfolding sizeBuffer
 untouched job before a b = rw (ne-eqb (sizeNumber job (length before)) 0 a, ne-eqb (sizeNumber job (length before)) 14 b)
 
+-- what the contract of size says of its number and of the buffer that it leaves
+abbrev pub Settled : List ℕ → List ℕ → ℕ → List ℕ → Type 0
+Settled job before number after = (number ≡ sizeNumber job (length before)) × ((after ≡ sizeBuffer job before) × Promises job before number after)
+
+settled : (job before : List ℕ) (n : ℕ) (after : List ℕ) → n ≡ sizeNumber job (length before) → after ≡ sizeBuffer job before → Settled job before n after
+settled job before n after e f = (e, (f, rw (e, f) (promises job before)))
+
 module _ (job before : List ℕ) where
-  pub size-job : (n : ℕ) → n ≡ refusal job → (n ≡ 0 → ⊥) → (n ≡ sizeNumber job (length before)) × (before ≡ sizeBuffer job before)
+  pub size-job : (n : ℕ) → n ≡ refusal job → (n ≡ 0 → ⊥) → Settled job before n before
   unfolding sizeNumber
   size-job n e z =
       let f : sizeNumber job (length before) ≡ n = job-fails job _ (λ g. z (e ∙ g)) ∙ sym e in
       let m : n ≤ 11 = omega (arith, refusal-most job) in
-      (sym f, untouched job before (λ g. z (sym f ∙ g)) (λ g. omega arith))
+      settled job before n before (sym f) (untouched job before (λ g. z (sym f ∙ g)) (λ g. omega arith))
 
   module _ {c : Counts} (k : Checked c job) (passes : refusal job ≡ 0) where
     net-is : netBy c job ≡ netOf job
     net-is = ap (λ d. netBy d job) (k .counted)
 
-    pub size-12 : length before < replyLength (netBy c job) → (12 ≡ sizeNumber job (length before)) × (before ≡ sizeBuffer job before)
+    pub size-12 : length before < replyLength (netBy c job) → Settled job before 12 before
     unfolding sizeNumber
     size-12 h =
         let g : length before < replyLength (netOf job) = subst (λ n. length before < replyLength n) net-is h in
         let f : sizeNumber job (length before) ≡ 12 = job-passes job _ passes ∙ firstNo-no 12 _ (leb (replyLength (netOf job)) (length before)) (lt-leb _ _ g) in
-        (sym f, untouched job before (λ e. omega arith) (λ e. omega arith))
+        settled job before 12 before (sym f) (untouched job before (λ e. omega arith) (λ e. omega arith))
 
     pub size-answer : (n : ℕ) (after : List ℕ) → replyLength (netBy c job) ≤ length before → n ≡ numberFrom (netBy c job) → after ≡ bufferFrom (netBy c job) n before
-        → (n ≡ sizeNumber job (length before)) × (after ≡ sizeBuffer job before)
+        → Settled job before n after
     unfolding sizeNumber numberFrom bufferFrom sizeBuffer
     size-answer n after h e f =
         let g : replyLength (netOf job) ≤ length before = subst (λ m. replyLength m ≤ length before) net-is h in
         let i : sizeNumber job (length before) ≡ numberFrom (netOf job) = job-passes job _ passes ∙ firstNo-yes 12 _ (leb (replyLength (netOf job)) (length before)) (le-leb _ _ g) in
         let j : n ≡ sizeNumber job (length before) = e ∙ ap numberFrom net-is ∙ sym i in
-        (j, f ∙ ap (λ m. bufferFrom m n before) net-is ∙ ap (λ m. bufferFrom (netOf job) m before) j)
+        settled job before n after j (f ∙ ap (λ m. bufferFrom m n before) net-is ∙ ap (λ m. bufferFrom (netOf job) m before) j)

@@ -8,6 +8,7 @@ ghost use lib.ListN.{length};
 ghost use Rattle.net.specs.Net.{netBy};
 ghost use Rattle.net.specs.Checked.{Checked};
 ghost use Rattle.net.specs.Answers.{sizeNumber, sizeBuffer};
+ghost use Rattle.net.specs.Promises.{Promises};
 ghost use Rattle.links.specs.Links.{Linked};
 ghost use Rattle.place.specs.Partial.{WeightsFrom};
 ghost use Rattle.size.specs.Parts.{Bounded, LeastOf, numberFrom, bufferFrom};
@@ -187,6 +188,7 @@ fn bound_and_answer(
 pub fn size(job: &[u8], reply: &mut [u8]) -> usize
     ensures number { λ r. ⌜ r ≡ sizeNumber (now (job .entry)) (length (now (reply .entry))) ⌝ }
     ensures buffer { λ r. ⌜ now (reply .exit) ≡ sizeBuffer (now (job .entry)) (now (reply .entry)) ⌝ }
+    ensures promises { λ r. ⌜ Promises (now (job .entry)) (now (reply .entry)) r (now (reply .exit)) ⌝ }
 {
     let mut first = [0usize; 65];
     let mut next = [0usize; 64];

@@ -1,0 +1,15 @@
+-- `questions::counts` meets its contract: all records are counted.
+use Rattle.net.specs.Job.{countsOf}
+use borrow.Author.Needs.{needs}
+use Rattle.questions.proofs.counts.Statement.{statement}
+use Rattle.questions.proofs.counts.Tie as tie
+
+count-requires : tie.Need-count-requires
+count-requires c κs = search needs
+
+returns : tie.Need-returns
+unfolding countsOf
+returns c = c .count .ensures
+
+pub counts-spec : {M : Type 1} → statement M
+counts-spec = tie.close (tie.spec count-requires returns)
