@@ -1,0 +1,390 @@
+#!/usr/bin/env python3
+"""Tests of tools/job."""
+
+import importlib.machinery
+import importlib.util
+import pathlib
+import random
+import subprocess
+import sys
+import tempfile
+import unittest
+
+sys.dont_write_bytecode = True
+HERE = pathlib.Path(__file__).resolve().parent
+TOOL = HERE / "job"
+EXAMPLES = HERE.parent / "examples"
+
+
+def load_tool():
+    """Loads the tool as a module, though its name has no ending."""
+    loader = importlib.machinery.SourceFileLoader("job", str(TOOL))
+    module = importlib.util.module_from_spec(importlib.util.spec_from_loader("job", loader))
+    loader.exec_module(module)
+    return module
+
+
+job = load_tool()
+
+
+def run(*arguments, data=b""):
+    """Runs the tool as a program."""
+    return subprocess.run([sys.executable, str(TOOL), *map(str, arguments)], input=data, capture_output=True)
+
+
+def bare(text):
+    """Drops comments and blank lines."""
+    lines = (line.split("#")[0].strip() for line in text.split("\n"))
+    return "".join(line + "\n" for line in lines if line)
+
+
+def word(value):
+    """Gives a number of four bytes, lowest first."""
+    return value.to_bytes(4, "little")
+
+
+def random_range(rng, count):
+    """Gives lowest and highest index below count."""
+    return sorted(rng.randrange(count) for _ in range(2))
+
+
+def random_table(rng, count, most_resistance, most_capacitance):
+    """Gives falling resistances and rising capacitances."""
+    resistances = sorted(rng.sample(range(1, most_resistance + 1), count), reverse=True)
+    return list(zip(resistances, sorted(rng.sample(range(1, most_capacitance + 1), count))))
+
+
+def random_segment(rng, number, parent, leaf, widths):
+    """Gives a segment record; a leaf has a sink, others sometimes."""
+    sink = leaf or rng.random() < 0.3
+    capacitance, weight = (rng.randint(0, 100000), rng.randint(0, 255)) if sink else (0, 0)
+    head = bytes([4, number, parent, sink]) + word(rng.randint(1, 1000)) + word(capacitance)
+    return head + bytes([weight, *random_range(rng, widths), 0])
+
+
+def random_job(rng):
+    """Gives a job that passes questions 1 to 11."""
+    widths, sizes, stages, segments = (rng.randint(1, most) for most in (8, 16, 4, 64))
+    records = [
+        bytes([1, at, 0, 0]) + word(r) + word(c) + word(0)
+        for at, (r, c) in enumerate(random_table(rng, widths, 100, 100))
+    ]
+    records += [
+        bytes([2, at, 0, 0]) + word(r) + word(g) + word(rng.randint(0, 100000))
+        for at, (r, g) in enumerate(random_table(rng, sizes, 100000, 100000))
+    ]
+    for at in range(stages):
+        lowest, highest = random_range(rng, sizes)
+        records.append(bytes([3, at, lowest, highest if at else lowest]) + bytes(12))
+    parents = [rng.randint(0, at) for at in range(segments)]
+    for at, parent in enumerate(parents):
+        records.append(random_segment(rng, at, parent, at + 1 not in parents, widths))
+    return b"".join(records)
+
+
+def random_record(rng, counts):
+    """Gives a record near a valid one: most bytes zero, most numbers in order."""
+    kind = rng.choice([1, 2, 3, 4, 4, 4, rng.randrange(256)])
+    record = bytearray(16)
+    record[0] = kind
+    record[1] = counts.get(kind, 0) % 256 if rng.random() < 0.9 else rng.randrange(256)
+    for _ in range(rng.randrange(6)):
+        record[rng.randrange(2, 16)] = rng.choice([1, 2, rng.randrange(256)])
+    counts[kind] = counts.get(kind, 0) + 1
+    return bytes(record)
+
+
+def near_job(rng):
+    """Gives records that are often, but not always, as they should be."""
+    counts = {}
+    return b"".join(random_record(rng, counts) for _ in range(rng.randrange(40)))
+
+
+class Examples(unittest.TestCase):
+    """The files of examples/."""
+
+    def test_all_there(self):
+        names = {path.stem for path in EXAMPLES.glob("*.txt")}
+        self.assertLessEqual({"j1", "j2", "j3", "j4", "j5", "clock"}, names)
+
+    def test_text_gives_job(self):
+        for path in EXAMPLES.glob("*.txt"):
+            with self.subTest(path.name):
+                self.assertEqual(job.pack(path.read_text()), path.with_suffix(".job").read_bytes())
+
+    def test_job_gives_text(self):
+        for path in EXAMPLES.glob("*.txt"):
+            with self.subTest(path.name):
+                self.assertEqual(job.unpack(path.with_suffix(".job").read_bytes()), bare(path.read_text()))
+
+    def test_j4_bytes(self):
+        expected = """
+            01 00 00 00  04 00 00 00  02 00 00 00  00 00 00 00
+            01 01 00 00  02 00 00 00  03 00 00 00  00 00 00 00
+            02 00 00 00  0a 00 00 00  03 00 00 00  01 00 00 00
+            02 01 00 00  05 00 00 00  07 00 00 00  01 00 00 00
+            03 00 00 00  00 00 00 00  00 00 00 00  00 00 00 00
+            03 01 00 01  00 00 00 00  00 00 00 00  00 00 00 00
+            04 00 00 01  01 00 00 00  04 00 00 00  01 00 01 00"""
+        self.assertEqual((EXAMPLES / "j4.job").read_bytes(), bytes.fromhex(expected))
+
+
+class Text(unittest.TestCase):
+    """What the text form allows."""
+
+    def same(self, text, other):
+        """Asks that two texts give one job."""
+        self.assertEqual(job.pack(text), job.pack(other))
+
+    def test_fields_in_any_order(self):
+        self.same("width capacitance 2 resistance 4", "width resistance 4 capacitance 2")
+        self.same(
+            "segment sink weight 1 capacitance 4 width 0 length 1 parent source",
+            "segment parent source length 1 width 0 sink capacitance 4 weight 1",
+        )
+
+    def test_comments_blanks_and_line_ends(self):
+        plain = "width resistance 4 capacitance 2\nwidth resistance 2 capacitance 3\n"
+        self.same("# c\n\n  width resistance 4 capacitance 2#x\n\twidth  resistance 2 capacitance 3", plain)
+        self.same(plain.replace("\n", "\r\n"), plain)
+        self.same("# c\r" + plain.replace("\n", "\r"), plain)
+
+    def test_one_index(self):
+        self.same("stage sizes 3..3", "stage size 3")
+        self.assertEqual(job.unpack(job.pack("stage sizes 3..3")), "stage size 3\n")
+
+    def test_jobs_to_be_refused(self):
+        for line in (
+            "width resistance 0 capacitance 4294967295",
+            "stage sizes 9..2",
+            "segment parent 254 length 0 widths 255..0 sink capacitance 0 weight 0",
+        ):
+            self.assertEqual(job.unpack(job.pack(line)), line + "\n")
+
+    def test_empty(self):
+        self.assertEqual(job.pack("# nothing\n\n"), b"")
+        self.assertEqual(job.unpack(b""), "")
+
+    def test_leading_zeros(self):
+        self.same("stage size " + "0" * 5000 + "7", "stage size 7")
+
+    def test_raw_counts_by_its_kind(self):
+        raw = "raw 01 07 00 00 00 00 00 00 00 00 00 00 00 00 00 00\n"
+        packed = job.pack(raw + "width resistance 1 capacitance 1\n")
+        self.assertEqual(packed[16:18], bytes([1, 1]))
+
+    def test_raw_that_has_fields(self):
+        raw = "raw 03 00 00 01" + " 00" * 12
+        self.assertEqual(job.unpack(job.pack(raw)), "stage sizes 0..1\n")
+
+
+class Bytes(unittest.TestCase):
+    """Whole records come back as they were."""
+
+    def returns(self, data):
+        """Asks that bytes come back from their text, and gives the text."""
+        text = job.unpack(data)
+        self.assertEqual(job.pack(text), data)
+        return text
+
+    def test_random_bytes(self):
+        rng = random.Random(1)
+        for _ in range(3000):
+            self.returns(rng.randbytes(16 * rng.randrange(12)))
+
+    def test_near_jobs(self):
+        rng = random.Random(2)
+        lines = "".join(self.returns(near_job(rng)) for _ in range(2000)).split("\n")
+        raw = sum(line.startswith("raw") for line in lines)
+        self.assertTrue(0.1 < raw / len(lines) < 0.9)
+
+    def test_valid_jobs_need_no_raw(self):
+        rng = random.Random(3)
+        for _ in range(500):
+            self.assertNotIn("raw", self.returns(random_job(rng)))
+
+    def test_each_byte_of_an_example(self):
+        data = (EXAMPLES / "j4.job").read_bytes()
+        for at in range(len(data)):
+            for value in (0, 1, 2, 3, 4, 5, 128, 255):
+                self.returns(data[:at] + bytes([value]) + data[at + 1 :])
+
+    def test_more_than_256_of_a_kind(self):
+        stage = bytes([3]) + bytes(15)
+        counted = b"".join(bytes([3, at]) + bytes(14) for at in range(256))
+        self.assertTrue(self.returns(counted + stage).endswith("raw 03" + " 00" * 15 + "\n"))
+
+    def test_shown_raw(self):
+        for line in (
+            "raw 01 01 00 00 04 00 00 00 02 00 00 00 00 00 00 00",  # number 1 first
+            "raw 01 00 00 00 04 00 00 00 02 00 00 00 00 00 00 01",  # an unnamed byte
+            "raw 04 00 00 02 01 00 00 00 04 00 00 00 01 00 01 00",  # sink byte 2
+            "raw 04 00 00 00 01 00 00 00 04 00 00 00 00 00 01 00",  # capacitance without sink
+            "raw 04 00 00 00 01 00 00 00 00 00 00 00 01 00 01 00",  # weight without sink
+            "raw 00 00 00 00 00 00 00 00 00 00 00 00 00 00 00 00",  # no kind
+        ):
+            self.assertEqual(job.unpack(job.pack(line)), line + "\n")
+
+    def test_part_record(self):
+        with self.assertRaisesRegex(job.Wrong, "^x.job: 17 bytes are not whole records of 16 bytes$"):
+            job.unpack(bytes(17), "x.job")
+
+
+class Errors(unittest.TestCase):
+    """Messages for wrong text."""
+
+    def wrong(self, line, message):
+        """Asks for a message about the third line."""
+        with self.assertRaises(job.Wrong) as caught:
+            job.pack(f"# first\n\n{line}\n", "net.txt")
+        self.assertEqual(str(caught.exception), "net.txt:3: " + message)
+
+    def test_words(self):
+        self.wrong("widht", "unknown word 'widht'; a line starts with width, size, stage, segment or raw")
+        self.wrong(
+            "width resistence 4",
+            "unknown word 'resistence' after width; its words are resistance, capacitance",
+        )
+        self.wrong(
+            "segment parent 0 7",
+            "unknown word '7' after segment; its words are parent, length, width, widths, sink, capacitance, weight",
+        )
+        self.wrong("width resistance 4 resistance 4", "resistance twice")
+        self.wrong("width resistance 4 capacitance", "capacitance has no value")
+        self.wrong("width resistance capacitance 2", "resistance has no value")
+
+    def test_missing_fields(self):
+        self.wrong("width", "width lacks its resistance")
+        self.wrong("width resistance 4", "width lacks its capacitance")
+        self.wrong("size resistance 4 gate 2", "size lacks its output")
+        self.wrong("stage", "stage lacks its sizes, as in 'sizes 0..1' or 'size 0'")
+        self.wrong("segment length 1 width 0", "segment lacks its parent")
+        self.wrong("segment parent source width 0", "segment lacks its length")
+        self.wrong("segment parent 0 length 1", "segment lacks its widths, as in 'widths 0..1' or 'width 0'")
+        self.wrong("segment parent 0 length 1 width 0 sink weight 1", "sink lacks its capacitance")
+        self.wrong("segment parent 0 length 1 width 0 sink capacitance 1", "sink lacks its weight")
+
+    def test_values(self):
+        self.wrong("stage size -1", "size wants a whole number, not '-1'")
+        self.wrong("stage size ²", "size wants a whole number, not '²'")
+        self.wrong(
+            "width resistance 4294967296 capacitance 2",
+            "resistance 4294967296 does not fit in 4 bytes (at most 4294967295)",
+        )
+        self.wrong("stage size 256", "size 256 does not fit in 1 byte (at most 255)")
+        self.wrong("stage sizes 0..256", "sizes 256 does not fit in 1 byte (at most 255)")
+        self.wrong(
+            "segment parent 0 length 1 width 0 sink capacitance 1 weight 256",
+            "weight 256 does not fit in 1 byte (at most 255)",
+        )
+        self.wrong("segment parent 255 length 1 width 0", "parent 255 does not fit in its byte (at most 254)")
+        self.wrong(
+            "segment parent root length 1 width 0", "parent wants 'source' or a segment's number, not 'root'"
+        )
+        long = "9" * 5000
+        self.wrong("stage size " + long, f"size {long} does not fit in 1 byte (at most 255)")
+
+    def test_ranges(self):
+        self.wrong("stage size 0..1", "size takes one index; a range is 'sizes 0..1'")
+        self.wrong("stage sizes 0", "sizes wants a range as in 'sizes 0..1', not '0'")
+        self.wrong("stage sizes 0..1..2", "sizes wants a range as in 'sizes 0..1', not '0..1..2'")
+        self.wrong("stage sizes 0..", "sizes wants a whole number, not ''")
+        self.wrong("stage size 0 sizes 0..1", "size and sizes in one line")
+
+    def test_sink(self):
+        self.wrong("segment parent 0 length 1 width 0 weight 0", "weight in a segment without the word sink")
+
+    def test_raw(self):
+        self.wrong("raw 00 01", "raw wants 16 bytes, not 2")
+        self.wrong("raw 00 1", "raw wants bytes of two hexadecimal digits, not '1'")
+
+    def test_number(self):
+        with self.assertRaisesRegex(job.Wrong, "^text:257: the number of this stage, 256, does not fit in 1 byte"):
+            job.pack("stage size 0\n" * 257)
+
+    def test_every_line(self):
+        with self.assertRaises(job.Wrong) as caught:
+            job.pack("width\nstage size 0\nsize\n")
+        self.assertEqual(str(caught.exception), "text:1: width lacks its resistance\ntext:3: size lacks its resistance")
+
+
+J4_REPLY = bytes.fromhex("0401000000000000 0000000000000000 0001000000000000 0001000000000000")
+J4_TEXT = "delay 260\nstage 0 0 0 0 0\nstage 1 0 1 0 0\nsegment 0 0 1 0 0\n"
+
+
+class Replies(unittest.TestCase):
+    """Replies as text."""
+
+    def setUp(self):
+        self.places = job.places_of((EXAMPLES / "j4.job").read_bytes())
+
+    def wrong(self, reply, message):
+        """Asks for a message about a reply to J4."""
+        with self.assertRaises(job.Wrong) as caught:
+            job.reply_text(reply, self.places)
+        self.assertEqual(str(caught.exception), "reply: " + message)
+
+    def test_finished(self):
+        self.assertEqual(job.reply_text(J4_REPLY, self.places), J4_TEXT)
+
+    def test_without_job(self):
+        expected = "delay 260\nplace 0 0 0 0 0\nplace 1 0 1 0 0\nplace 2 0 1 0 0\n"
+        self.assertEqual(job.reply_text(J4_REPLY), expected)
+
+    def test_bounds_only(self):
+        reply = bytes([255] * 8) + bytes.fromhex("0000ffff00000000 0001ffff00000000 0001ffff00000000")
+        self.assertEqual(job.reply_text(reply, self.places), "stage 0 0 0 - -\nstage 1 0 1 - -\nsegment 0 0 1 - -\n")
+
+    def test_large_delay(self):
+        reply = (2**63 - 1).to_bytes(8, "little") + J4_REPLY[8:]
+        self.assertTrue(job.reply_text(reply).startswith("delay 9223372036854775807\n"))
+
+    def test_not_a_reply(self):
+        self.wrong(b"", "0 bytes are not a delay and places of 8 bytes each")
+        self.wrong(J4_REPLY[:8], "8 bytes are not a delay and places of 8 bytes each")
+        self.wrong(J4_REPLY[:-1], "31 bytes are not a delay and places of 8 bytes each")
+        self.wrong(J4_REPLY[:-8], "the reply has 2 places and the job 3")
+        self.wrong(J4_REPLY[:-1] + b"\1", "not a reply: segment 0 is 00 01 00 00 00 00 00 01")
+        self.wrong(bytes([255] * 8) + J4_REPLY[8:], "not a reply: stage 0 is 00 00 00 00 00 00 00 00")
+        self.wrong(J4_REPLY[:10] + b"\xff" + J4_REPLY[11:], "not a reply: stage 0 is 00 00 ff 00 00 00 00 00")
+
+
+class Program(unittest.TestCase):
+    """The tool run as a program."""
+
+    def test_standard_streams(self):
+        text = (EXAMPLES / "j4.txt").read_bytes()
+        packed = run("pack", data=text)
+        self.assertEqual(packed.stdout, (EXAMPLES / "j4.job").read_bytes())
+        unpacked = run("unpack", "-", data=packed.stdout)
+        self.assertEqual(unpacked.stdout.decode(), bare(text.decode()))
+
+    def test_files(self):
+        with tempfile.TemporaryDirectory() as folder:
+            made, back = pathlib.Path(folder, "j4.job"), pathlib.Path(folder, "j4.txt")
+            self.assertEqual(run("pack", EXAMPLES / "j4.txt", "-o", made).returncode, 0)
+            self.assertEqual(run("unpack", made, "-o", back).returncode, 0)
+            self.assertEqual(back.read_text(), bare((EXAMPLES / "j4.txt").read_text()))
+
+    def test_reply(self):
+        result = run("reply", "--job", EXAMPLES / "j4.job", data=J4_REPLY)
+        self.assertEqual((result.returncode, result.stdout.decode()), (0, J4_TEXT))
+
+    def test_wrong_text_writes_nothing(self):
+        with tempfile.TemporaryDirectory() as folder:
+            made = pathlib.Path(folder, "x.job")
+            result = run("pack", "-o", made, data="width resistance 4\nsíze\n".encode("latin-1"))
+            self.assertEqual(result.returncode, 1)
+            self.assertFalse(made.exists())
+        lines = result.stderr.decode().split("\n")
+        self.assertEqual(lines[0], "standard input:1: width lacks its capacitance")
+        self.assertTrue(lines[1].startswith("standard input:2: unknown word 's\\udced"))
+
+    def test_missing_file(self):
+        result = run("unpack", "no such file")
+        self.assertEqual((result.returncode, result.stdout), (1, b""))
+        self.assertIn(b"no such file", result.stderr)
+
+
+if __name__ == "__main__":
+    unittest.main()
