@@ -1,0 +1,258 @@
+//! Batches of calls: for small jobs, damaged jobs, jobs at the limits, large jobs and jobs around the largest room.
+
+use std::collections::BTreeMap;
+
+use crate::calls::{Call, expected};
+use crate::damage::damage;
+use crate::generate::{
+    allowed_sizing, any_place, any_reply, any_side, any_sizing, large_plan, marked, roomy_plan, small_plan, tied_star,
+    weightless_plan,
+};
+use crate::limits::{largest_plans, limits};
+use crate::plan::Plan;
+use crate::random::Random;
+use crate::worked;
+
+/// The most allowed sizings of a small job.
+pub const MOST_ALLOWED: u128 = 400;
+
+/// How often each operation returned each number.
+pub type Counts = BTreeMap<(&'static str, u64), usize>;
+
+/// The name of a call's operation.
+pub fn operation(call: &Call) -> &'static str {
+    match call {
+        Call::Measure { .. } => "measure",
+        Call::Refine { .. } => "refine",
+        Call::Choose { .. } => "choose",
+        Call::Size { .. } => "size",
+    }
+}
+
+/// Counts the numbers that the reference expects of calls.
+pub fn count(counts: &mut Counts, calls: &[Call]) {
+    for call in calls {
+        *counts.entry((operation(call), expected(call).number)).or_default() += 1;
+    }
+}
+
+/// A measure of a job with a sizing made for a plan.
+fn a_measure(random: &mut Random, job: &[u8], plan: &Plan) -> Call {
+    let figures = marked(random.pick(&[16, 16, 16, 24, 17, 15, 8, 0]));
+    Call::Measure {
+        job: job.to_vec(),
+        sizing: any_sizing(random, plan),
+        figures,
+    }
+}
+
+/// A refine of a job with a sizing made for a plan.
+fn a_refine(random: &mut Random, job: &[u8], plan: &Plan) -> Call {
+    let index = marked(random.pick(&[1, 1, 1, 2, 9, 0]));
+    let sizing = any_sizing(random, plan);
+    Call::Refine {
+        job: job.to_vec(),
+        sizing,
+        place: any_place(random, plan.places()),
+        side: any_side(random),
+        index,
+    }
+}
+
+/// A choose of a job between two sizings made for a plan, now and then equal but for what lies behind them.
+fn a_choose(random: &mut Random, job: &[u8], plan: &Plan) -> Call {
+    let x = any_sizing(random, plan);
+    let y = if random.once_in(6) {
+        [&x[..], &[9]].concat()
+    } else {
+        any_sizing(random, plan)
+    };
+    Call::Choose { job: job.to_vec(), x, y }
+}
+
+/// A size of a job with a buffer that is right or wrong for a plan.
+fn a_size(random: &mut Random, job: &[u8], plan: &Plan) -> Call {
+    Call::Size {
+        job: job.to_vec(),
+        reply: any_reply(random, plan.places()),
+    }
+}
+
+/// A size of a job with a buffer that is long enough for every job.
+fn a_roomy_size(job: &[u8]) -> Call {
+    Call::Size {
+        job: job.to_vec(),
+        reply: marked(8 * 69 + 5),
+    }
+}
+
+/// One call of each operation, for a job and the plan that it was made of.
+pub fn one_of_each(random: &mut Random, job: &[u8], plan: &Plan) -> Vec<Call> {
+    vec![
+        a_measure(random, job, plan),
+        a_refine(random, job, plan),
+        a_choose(random, job, plan),
+        a_size(random, job, plan),
+    ]
+}
+
+/// The calls for one small job.
+pub fn small_calls(random: &mut Random, most: u128) -> Vec<Call> {
+    let plan = small_plan(random, most);
+    let job = plan.bytes();
+    let mut calls = one_of_each(random, &job, &plan);
+    calls.push(Call::Size {
+        job: job.clone(),
+        reply: marked(8 * (1 + plan.places())),
+    });
+    calls.push(a_measure(random, &job, &plan));
+    calls.push(a_refine(random, &job, &plan));
+    calls.push(a_refine(random, &job, &plan));
+    calls.push(a_choose(random, &job, &plan));
+    calls
+}
+
+/// The calls for one damaged job.
+pub fn damaged_calls(random: &mut Random, most: u128) -> Vec<Call> {
+    let plan = small_plan(random, most);
+    let mut job = plan.bytes();
+    damage(random, &mut job);
+    one_of_each(random, &job, &plan)
+}
+
+/// The calls for one job of many segments: refine at every place from both sides, and the rest.
+pub fn large_calls(random: &mut Random) -> Vec<Call> {
+    let plan = large_plan(random);
+    let job = plan.bytes();
+    let mut calls = one_of_each(random, &job, &plan);
+    calls.push(a_roomy_size(&job));
+    for place in 0..plan.places() {
+        let sizing = allowed_sizing(random, &plan);
+        let side = (place % 2) as u32;
+        calls.push(Call::Refine {
+            job: job.clone(),
+            sizing,
+            place,
+            side,
+            index: marked(1),
+        });
+    }
+    calls
+}
+
+/// The calls for every job at or just beyond a limit.
+pub fn limit_calls() -> Vec<Call> {
+    let mut random = Random::new(12);
+    let mut calls = Vec::new();
+    for limit in limits() {
+        let sizing = vec![0; 70];
+        let (job, index) = (limit.job, marked(1));
+        calls.push(Call::Measure {
+            job: job.clone(),
+            sizing: sizing.clone(),
+            figures: marked(16),
+        });
+        calls.push(Call::Refine {
+            job: job.clone(),
+            sizing: sizing.clone(),
+            place: random.below(6),
+            side: 1,
+            index,
+        });
+        calls.push(Call::Choose {
+            job: job.clone(),
+            x: sizing.clone(),
+            y: sizing,
+        });
+        calls.push(a_roomy_size(&job));
+    }
+    calls
+}
+
+/// The calls for every job of the largest size and figures.
+pub fn largest_calls() -> Vec<Call> {
+    let mut random = Random::new(13);
+    let mut calls = Vec::new();
+    for (_, plan) in largest_plans() {
+        let job = plan.bytes();
+        for _ in 0..4 {
+            calls.extend(one_of_each(&mut random, &job, &plan));
+        }
+        calls.push(a_roomy_size(&job));
+    }
+    calls
+}
+
+/// Counts of indices at free stages and free segments, with room at, just below and just above 65,536.
+const ROOMS: [(&[u8], &[u8]); 8] = [
+    (&[], &[4, 4, 4, 4, 4, 4, 4, 4]),
+    (&[16, 16, 16], &[2, 2, 2, 2]),
+    (&[], &[2, 2, 2, 2, 2, 2, 2, 2, 2, 2, 2, 2, 2, 2, 2, 2]),
+    (&[16, 16], &[8, 8, 4]),
+    (&[13, 12, 12], &[7, 5]),
+    (&[10], &[3, 3, 3, 3, 3, 3, 3, 3]),
+    (&[5, 5, 5], &[5, 5, 7, 3]),
+    (&[], &[8, 8, 8, 8, 8, 3]),
+];
+
+/// The calls for jobs around the largest room, and far beyond it.
+pub fn room_calls() -> Vec<Call> {
+    let mut random = Random::new(14);
+    let mut plans: Vec<Plan> = ROOMS
+        .iter()
+        .map(|(stages, segments)| weightless_plan(&mut random, stages, segments))
+        .collect();
+    plans.extend([worked::weightless(8), worked::weightless(9), worked::clock()]);
+    plans.extend((0..200).map(|_| roomy_plan(&mut random)));
+    plans.extend([10, 13, 15, 16, 16, 17, 17, 18, 24, 40, 63, 64].map(|count| tied_star(&mut random, count)));
+    plans
+        .iter()
+        .flat_map(|plan| {
+            [
+                vec![a_roomy_size(&plan.bytes())],
+                one_of_each(&mut random, &plan.bytes(), plan),
+            ]
+            .concat()
+        })
+        .collect()
+}
+
+/// The calls for the worked jobs: every sizing, every place, both sides, every pair.
+pub fn worked_calls() -> Vec<Call> {
+    let mut calls = Vec::new();
+    for (_, plan) in worked::named() {
+        let job = plan.bytes();
+        let (lowest, highest): (Vec<u8>, Vec<u8>) = plan.ranges().iter().map(|range| (range[0], range[1])).unzip();
+        let sizings = crate::reference::sizings_between(&lowest, &highest);
+        for x in &sizings {
+            calls.push(Call::Measure {
+                job: job.clone(),
+                sizing: x.clone(),
+                figures: marked(16),
+            });
+            for place in 0..=plan.places() {
+                for side in [0, 1] {
+                    calls.push(Call::Refine {
+                        job: job.clone(),
+                        sizing: x.clone(),
+                        place,
+                        side,
+                        index: marked(1),
+                    });
+                }
+            }
+            calls.extend(sizings.iter().map(|y| Call::Choose {
+                job: job.clone(),
+                x: x.clone(),
+                y: y.clone(),
+            }));
+        }
+        let exact = 8 * (1 + plan.places());
+        calls.extend([exact - 1, exact, exact + 3].map(|length| Call::Size {
+            job: job.clone(),
+            reply: marked(length),
+        }));
+    }
+    calls.extend(worked::refused().into_iter().map(|(job, _)| a_roomy_size(&job)));
+    calls
+}

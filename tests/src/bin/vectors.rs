@@ -1,0 +1,97 @@
+//! Writes a file of framed calls and a file of the lines that they have to give.
+
+use numlejka_tests::batches::{Counts, count, damaged_calls, large_calls, limit_calls, room_calls, small_calls, worked_calls};
+use numlejka_tests::calls::Call;
+use numlejka_tests::random::{Random, SEED};
+
+/// The longest job of most calls, in bytes.
+const SHORT_JOB: usize = 30 * 16;
+
+/// The most bytes of all frames.
+const MOST_BYTES: usize = 900_000;
+
+/// The most allowed sizings of a job, few so that a slow program is done soon.
+const MOST_ALLOWED: u128 = 200;
+
+/// The job of a call.
+fn job_of(call: &Call) -> &[u8] {
+    match call {
+        Call::Measure { job, .. } | Call::Refine { job, .. } | Call::Choose { job, .. } | Call::Size { job, .. } => job,
+    }
+}
+
+/// A call whose place and side fit into one byte each, the side 0 or 1.
+fn framed(call: Call) -> Call {
+    match call {
+        Call::Refine {
+            job,
+            sizing,
+            place,
+            side,
+            index,
+        } => Call::Refine {
+            job,
+            sizing,
+            place: place.min(255),
+            side: side.min(1),
+            index,
+        },
+        other => other,
+    }
+}
+
+/// Every so many of a list of calls.
+fn every(step: usize, calls: Vec<Call>) -> Vec<Call> {
+    calls.into_iter().step_by(step).collect()
+}
+
+/// The calls with short jobs: worked, small, damaged and at the limits.
+fn short_calls(random: &mut Random) -> Vec<Call> {
+    let mut calls = worked_calls();
+    calls.extend((0..190).flat_map(|_| small_calls(random, MOST_ALLOWED)));
+    calls.extend((0..260).flat_map(|_| damaged_calls(random, MOST_ALLOWED)));
+    calls.extend(every(3, limit_calls()));
+    calls.retain(|call| job_of(call).len() <= SHORT_JOB);
+    calls
+}
+
+/// A few calls with more records, and some with too much room.
+fn longer_calls(random: &mut Random) -> Vec<Call> {
+    let mut calls = every(17, (0..4).flat_map(|_| large_calls(random)).collect());
+    calls.extend(every(25, room_calls()));
+    calls
+}
+
+/// All calls of the file.
+fn all_calls() -> Vec<Call> {
+    let mut random = Random::new(31);
+    let mut calls = short_calls(&mut random);
+    calls.extend(longer_calls(&mut random));
+    calls.into_iter().map(framed).collect()
+}
+
+/// Writes both files, and prints the seed and how often each operation gives each number.
+fn main() -> std::io::Result<()> {
+    let files: Vec<String> = std::env::args().skip(1).collect();
+    assert_eq!(files.len(), 2, "usage: vectors STDIN-FILE STDOUT-FILE");
+    let calls = all_calls();
+    let frames: Vec<u8> = calls.iter().flat_map(Call::frame).collect();
+    let lines: String = calls.iter().map(|call| call.printed() + "\n").collect();
+    assert!(frames.len() < MOST_BYTES);
+    std::fs::write(&files[0], &frames)?;
+    std::fs::write(&files[1], lines)?;
+    let mut counts = Counts::new();
+    count(&mut counts, &calls);
+    assert!(
+        (0..=12).chain([14]).all(|number| counts.contains_key(&("size", number))),
+        "every question of size is reached"
+    );
+    assert!(
+        (0..=11)
+            .chain([15, 16, 17])
+            .all(|number| counts.contains_key(&("refine", number))),
+        "every question of refine is reached"
+    );
+    println!("seed {SEED:#x}, {} calls, {} bytes, {counts:?}", calls.len(), frames.len());
+    Ok(())
+}

@@ -1,0 +1,290 @@
+//! Damages to a valid job, sorted by the question that they are meant to fail.
+#![allow(clippy::ptr_arg)] // one type for those that change the length and those that do not
+
+use crate::questions::RECORD;
+use crate::random::Random;
+
+/// A change to a job's bytes; it may find nothing to change.
+type Damage = fn(&mut Random, &mut Vec<u8>);
+
+/// The positions of the records of a kind.
+fn records(job: &[u8], kind: u8) -> Vec<usize> {
+    (0..job.len() / RECORD)
+        .map(|i| i * RECORD)
+        .filter(|&at| job[at] == kind)
+        .collect()
+}
+
+/// The position of a random record of a kind.
+fn any_record(random: &mut Random, job: &[u8], kind: u8) -> Option<usize> {
+    let found = records(job, kind);
+    if found.is_empty() { None } else { Some(random.pick(&found)) }
+}
+
+/// Writes a four-byte number.
+fn put(job: &mut [u8], at: usize, number: u32) {
+    job[at..at + 4].copy_from_slice(&number.to_le_bytes());
+}
+
+/// Puts a number out of 0 to `most`, or 0 itself, into a field of a random record of a kind.
+fn put_beyond(random: &mut Random, job: &mut [u8], kind: u8, field: usize, most: u32) {
+    if let Some(at) = any_record(random, job, kind) {
+        let number = random.pick(&[0, most + 1, most + 256, 1 << 16, 1 << 24, (1 << 24) + 1, 1 << 31, u32::MAX]);
+        put(job, at + field, if number <= most && number != 0 { most + 1 } else { number });
+    }
+}
+
+/// Cuts some bytes off the end.
+fn cut_end(random: &mut Random, job: &mut Vec<u8>) {
+    let length = job.len().saturating_sub(random.between(1, 15) as usize);
+    job.truncate(length);
+}
+
+/// Adds part of a record at the end.
+fn add_part(random: &mut Random, job: &mut Vec<u8>) {
+    let part = random.between(1, 15) as usize;
+    job.extend(random.bytes(part));
+}
+
+/// Leaves nothing.
+fn empty(_: &mut Random, job: &mut Vec<u8>) {
+    job.clear();
+}
+
+/// Gives a record a kind that there is not.
+fn unknown_kind(random: &mut Random, job: &mut Vec<u8>) {
+    let at = random.below(job.len() / RECORD) * RECORD;
+    job[at] = random.pick(&[0, 5, 6, 8, 128, 255]);
+}
+
+/// Swaps two records, of one kind or of two.
+fn swap_records(random: &mut Random, job: &mut Vec<u8>) {
+    let count = job.len() / RECORD;
+    let (a, b) = (random.below(count) * RECORD, random.below(count) * RECORD);
+    for i in 0..RECORD {
+        job.swap(a + i, b + i);
+    }
+}
+
+/// Swaps the first record with the last.
+fn swap_ends(_: &mut Random, job: &mut Vec<u8>) {
+    let last = job.len() - RECORD;
+    for i in 0..RECORD {
+        job.swap(i, last + i);
+    }
+}
+
+/// Drops all records of a kind.
+fn drop_kind(random: &mut Random, job: &mut Vec<u8>) {
+    let kind = random.between(1, 4) as u8;
+    *job = job
+        .chunks(RECORD)
+        .filter(|record| record[0] != kind)
+        .flatten()
+        .copied()
+        .collect();
+}
+
+/// Repeats the last record of a kind, numbered on, until there is one too many.
+fn too_many(random: &mut Random, job: &mut Vec<u8>) {
+    let (kind, most) = random.pick(&[(1u8, 8usize), (2, 16), (3, 4), (4, 64)]);
+    let found = records(job, kind);
+    let Some(&last) = found.last() else { return };
+    let copy = job[last..last + RECORD].to_vec();
+    for number in (found.len()..most + 1).rev() {
+        let mut record = copy.clone();
+        record[1] = number as u8;
+        job.splice(last + RECORD..last + RECORD, record);
+    }
+}
+
+/// Changes the number of a record.
+fn change_number(random: &mut Random, job: &mut Vec<u8>) {
+    let at = random.below(job.len() / RECORD) * RECORD;
+    job[at + 1] = random.pick(&[job[at + 1].wrapping_add(1), job[at + 1].wrapping_sub(1), 0, 255]);
+}
+
+/// Drops one record, so that the numbers after it do not fit.
+fn drop_record(random: &mut Random, job: &mut Vec<u8>) {
+    let at = random.below(job.len() / RECORD) * RECORD;
+    job.drain(at..at + RECORD);
+}
+
+/// Sets an unnamed byte of a record.
+fn set_unnamed(random: &mut Random, job: &mut Vec<u8>) {
+    let kind = random.between(1, 4) as u8;
+    let unnamed: &[usize] = match kind {
+        1 => &[2, 3, 12, 13, 14, 15],
+        2 => &[2, 3],
+        3 => &[4, 5, 6, 7, 8, 9, 10, 11, 12, 13, 14, 15],
+        _ => &[15],
+    };
+    if let Some(at) = any_record(random, job, kind) {
+        job[at + random.pick(unnamed)] = random.between(1, 255) as u8;
+    }
+}
+
+/// Takes a sink's byte away and leaves a capacitance or a weight.
+fn stray_sink(random: &mut Random, job: &mut Vec<u8>) {
+    if let Some(at) = any_record(random, job, 4) {
+        job[at + 3] = 0;
+        match random.below(3) {
+            0 => job[at + 12] = random.between(1, 255) as u8,
+            1 => job[at + 8 + random.below(4)] = random.between(1, 255) as u8,
+            _ => put(job, at + 8, random.between(1, 100_000)),
+        }
+    }
+}
+
+/// Puts a resistance or a capacitance of a width out of range.
+fn width_beyond(random: &mut Random, job: &mut Vec<u8>) {
+    let field = random.pick(&[4, 8]);
+    put_beyond(random, job, 1, field, 100);
+}
+
+/// Puts a resistance, a gate or an output of a size out of range.
+fn size_beyond(random: &mut Random, job: &mut Vec<u8>) {
+    let field = random.pick(&[4, 8, 12]);
+    put_beyond(random, job, 2, field, 100_000);
+}
+
+/// Copies a table field from one row to the next, or swaps them, so that the order is lost.
+fn disorder(random: &mut Random, job: &mut Vec<u8>) {
+    let kind = random.between(1, 2) as u8;
+    let found = records(job, kind);
+    if found.len() < 2 {
+        return;
+    }
+    let row = random.below(found.len() - 1);
+    let field = found[row] + random.pick(&[4, 8]);
+    let swap = random.once_in(2);
+    for at in field..field + 4 {
+        if swap {
+            job.swap(at, at + RECORD);
+        } else {
+            job[at + RECORD] = job[at];
+        }
+    }
+}
+
+/// Adds a row to a table that is equal to its last.
+fn repeat_row(random: &mut Random, job: &mut Vec<u8>) {
+    let kind = random.between(1, 2) as u8;
+    let Some(&last) = records(job, kind).last() else { return };
+    let mut record = job[last..last + RECORD].to_vec();
+    record[1] = record[1].wrapping_add(1);
+    job.splice(last + RECORD..last + RECORD, record);
+}
+
+/// Damages a range: above the table, or turned round; `low` is the byte of its lowest index.
+fn bad_range(random: &mut Random, job: &mut [u8], at: usize, low: usize, count: usize) {
+    match random.below(4) {
+        0 => job[at + low + 1] = count as u8,
+        1 => job[at + low + 1] = random.pick(&[255, 128, 16]),
+        2 => job[at + low] = job[at + low + 1].wrapping_add(1),
+        _ => (job[at + low], job[at + low + 1]) = (count as u8, count as u8),
+    }
+}
+
+/// Damages the range of a stage.
+fn bad_stage(random: &mut Random, job: &mut Vec<u8>) {
+    let count = records(job, 2).len();
+    if let Some(at) = any_record(random, job, 3) {
+        bad_range(random, job, at, 2, count);
+    }
+}
+
+/// Lets stage 0 choose.
+fn free_first_stage(_: &mut Random, job: &mut Vec<u8>) {
+    let count = records(job, 2).len();
+    if let Some(&at) = records(job, 3).first() {
+        (job[at + 2], job[at + 3]) = (0, (count as u8).wrapping_sub(1));
+    }
+}
+
+/// Hangs a segment on itself or on a later one.
+fn late_parent(random: &mut Random, job: &mut Vec<u8>) {
+    if let Some(at) = any_record(random, job, 4) {
+        job[at + 2] = random.pick(&[job[at + 1].wrapping_add(1), job[at + 1].wrapping_add(2), 255, 64]);
+    }
+}
+
+/// Damages the sink byte of a segment.
+fn bad_sink_byte(random: &mut Random, job: &mut Vec<u8>) {
+    if let Some(at) = any_record(random, job, 4) {
+        job[at + 3] = random.pick(&[2, 3, 128, 255]);
+    }
+}
+
+/// Puts a segment's length out of range.
+fn length_beyond(random: &mut Random, job: &mut Vec<u8>) {
+    put_beyond(random, job, 4, 4, 1_000);
+}
+
+/// Puts a sink's capacitance out of range.
+fn sink_beyond(random: &mut Random, job: &mut Vec<u8>) {
+    put_beyond(random, job, 4, 8, 100_000);
+}
+
+/// Damages the range of a segment.
+fn bad_segment_range(random: &mut Random, job: &mut Vec<u8>) {
+    let count = records(job, 1).len();
+    if let Some(at) = any_record(random, job, 4) {
+        bad_range(random, job, at, 13, count);
+    }
+}
+
+/// Takes a sink away with all that belongs to it.
+fn drop_sink(random: &mut Random, job: &mut Vec<u8>) {
+    if let Some(at) = any_record(random, job, 4) {
+        job[at + 3] = 0;
+        put(job, at + 8, 0);
+        job[at + 12] = 0;
+    }
+}
+
+/// Takes the sink of the last segment away, on which nothing hangs.
+fn drop_last_sink(_: &mut Random, job: &mut Vec<u8>) {
+    if let Some(&at) = records(job, 4).last() {
+        job[at + 3] = 0;
+        put(job, at + 8, 0);
+        job[at + 12] = 0;
+    }
+}
+
+/// Changes one byte, whichever.
+fn any_byte(random: &mut Random, job: &mut Vec<u8>) {
+    let at = random.below(job.len());
+    job[at] = random.byte();
+}
+
+/// The damages meant for a question of 1 to 11; for 0 any byte.
+fn damages_for(question: usize) -> &'static [Damage] {
+    match question {
+        1 => &[cut_end, add_part, empty],
+        2 => &[unknown_kind, swap_records, swap_ends],
+        3 => &[drop_kind, too_many],
+        4 => &[change_number, swap_records, drop_record],
+        5 => &[set_unnamed, stray_sink],
+        6 => &[width_beyond, size_beyond],
+        7 => &[disorder, repeat_row],
+        8 => &[bad_stage, free_first_stage],
+        9 => &[late_parent],
+        10 => &[bad_sink_byte, length_beyond, sink_beyond, bad_segment_range],
+        11 => &[drop_sink, drop_last_sink],
+        _ => &[any_byte],
+    }
+}
+
+/// Damages a valid job once, twice or three times, so that the order of the questions shows too.
+pub fn damage(random: &mut Random, job: &mut Vec<u8>) {
+    let times = random.pick(&[1, 1, 2, 2, 3]);
+    let mut questions: Vec<usize> = (0..times).map(|_| random.below(12)).collect();
+    questions.sort_by(|a, b| b.cmp(a));
+    for question in questions {
+        if job.len() >= RECORD {
+            let kind = random.pick(damages_for(question));
+            kind(random, job);
+        }
+    }
+}

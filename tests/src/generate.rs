@@ -1,0 +1,411 @@
+//! Generators of valid jobs, sizings, places and buffers.
+
+use crate::plan::{Plan, segment_with_sink, segment_without_sink};
+use crate::random::Random;
+
+/// The shapes of a tree of segments.
+#[derive(Clone, Copy, Debug)]
+pub enum Shape {
+    Chain,
+    Star,
+    Binary,
+    Comb,
+    Any,
+}
+
+/// All shapes.
+pub const SHAPES: [Shape; 5] = [Shape::Chain, Shape::Star, Shape::Binary, Shape::Comb, Shape::Any];
+
+/// The parent byte of a segment in a tree of a shape.
+pub fn parent_byte(random: &mut Random, shape: Shape, segment: usize) -> u8 {
+    let parent = match shape {
+        Shape::Chain => segment,
+        Shape::Star => 0,
+        Shape::Binary => segment.div_ceil(2),
+        Shape::Comb if segment % 2 == 1 => segment,
+        Shape::Comb => segment.saturating_sub(1),
+        Shape::Any => random.below(segment + 1),
+    };
+    parent as u8
+}
+
+/// Different numbers from `low` to `high` in rising order, close together or spread out.
+fn rising(random: &mut Random, count: usize, low: u32, high: u32) -> Vec<u32> {
+    let most_step = if random.once_in(3) {
+        (high - low) / count as u32
+    } else {
+        3.min((high - low) / count as u32)
+    };
+    let mut numbers = Vec::new();
+    let mut at = low + random.between(0, most_step.max(1) - 1);
+    for _ in 0..count {
+        numbers.push(at);
+        at += random.between(1, most_step.max(1));
+    }
+    numbers
+}
+
+/// Pairs with falling resistance and rising capacitance, often with equal products.
+fn table(random: &mut Random, count: usize, high: u32) -> Vec<[u32; 2]> {
+    if count <= 4 && random.once_in(3) {
+        let scale = if random.once_in(2) { 1 } else { random.between(1, high / 8) };
+        let start = random.below(5 - count);
+        return (start..start + count).map(|i| [(8 >> i) * scale, (1 << i) * scale]).collect();
+    }
+    let resistances = rising(random, count, 1, high);
+    let capacitances = rising(random, count, 1, high);
+    (0..count).map(|i| [resistances[count - 1 - i], capacitances[i]]).collect()
+}
+
+/// A range within the first `count` indices: all of them, one, or some.
+fn range(random: &mut Random, count: usize) -> [u8; 2] {
+    let (a, b) = (random.below(count) as u8, random.below(count) as u8);
+    match random.below(4) {
+        0 | 1 => [0, count as u8 - 1],
+        2 => [a, a],
+        _ => [a.min(b), a.max(b)],
+    }
+}
+
+/// Narrows the ranges of random places until at most `most` sizings are allowed.
+fn narrow(random: &mut Random, plan: &mut Plan, most: u128) {
+    while plan.allowed_sizings() > most {
+        let place = random.below(plan.places());
+        let [lowest, highest] = plan.ranges()[place];
+        if lowest < highest {
+            let narrower = if random.once_in(2) {
+                [lowest + 1, highest]
+            } else {
+                [lowest, highest - 1]
+            };
+            plan.set_range(place, narrower);
+        }
+    }
+}
+
+/// A weight by the manner of its job: all 0, all equal, some 0, small, or any.
+fn weight(random: &mut Random, manner: usize) -> u8 {
+    match manner {
+        0 => 0,
+        1 => 1,
+        2 => random.pick(&[0, 0, 1, 2]),
+        3 => random.between(0, 4) as u8,
+        _ => random.byte(),
+    }
+}
+
+/// The tree of a plan: segments of one shape, with a sink at every end and here and there between.
+fn plant(random: &mut Random, plan: &mut Plan, shape: Shape, count: usize, large: bool) {
+    let parents: Vec<u8> = (0..count).map(|segment| parent_byte(random, shape, segment)).collect();
+    let manner = random.pick(&[0, 1, 1, 2, 2, 3, 3, 3, 4, 4]);
+    for (segment, &parent) in parents.iter().enumerate() {
+        let length = if large {
+            random.between(1, 1_000)
+        } else {
+            random.between(1, 3)
+        };
+        let range = range(random, plan.widths.len());
+        let is_end = !parents.contains(&(segment as u8 + 1));
+        plan.segments.push(if is_end || random.once_in(3) {
+            let capacitance = if large {
+                random.between(0, 100_000)
+            } else {
+                random.between(0, 6)
+            };
+            segment_with_sink(parent, length, capacitance, weight(random, manner), range)
+        } else {
+            segment_without_sink(parent, length, range)
+        });
+    }
+}
+
+/// A valid job's plan with a given number of segments and at most `most` allowed sizings.
+pub fn plan_of(random: &mut Random, segments: usize, most: u128) -> Plan {
+    let shape = random.pick(&SHAPES);
+    let large = random.once_in(4);
+    let width_count = random.pick(&[1, 2, 2, 3, 3, 4, 4, 5, 8]);
+    let size_count = random.pick(&[1, 2, 2, 3, 3, 4, 4, 6, 16]);
+    let widths = table(random, width_count, if large { 100 } else { 32 });
+    let sizes = table(random, size_count, if large { 100_000 } else { 48 });
+    let outputs = if large { 100_000 } else { 4 };
+    let sizes = sizes
+        .iter()
+        .map(|&[resistance, gate]| [resistance, gate, random.between(0, outputs)])
+        .collect();
+    let fixed = random.below(size_count) as u8;
+    let stage_count = random.pick(&[1, 1, 2, 2, 3, 4]);
+    let mut plan = Plan {
+        widths,
+        sizes,
+        stages: vec![[fixed, fixed]],
+        segments: Vec::new(),
+    };
+    for _ in 1..stage_count {
+        plan.stages.push(range(random, size_count));
+    }
+    plant(random, &mut plan, shape, segments, large);
+    narrow(random, &mut plan, most);
+    plan
+}
+
+/// Different numbers from 1 to `high` in rising order, without any rule.
+fn scattered(random: &mut Random, count: usize, high: u32) -> Vec<u32> {
+    let mut numbers = Vec::new();
+    while numbers.len() < count {
+        let number = random.between(1, high);
+        if !numbers.contains(&number) {
+            numbers.push(number);
+        }
+    }
+    numbers.sort();
+    numbers
+}
+
+/// A plan of coarse tables and several free stages, where stages and widths pull each other and the bounds stay apart.
+pub fn pulling_plan(random: &mut Random, most: u128) -> Plan {
+    let (width_count, size_count) = (random.between(2, 4) as usize, random.between(2, 4) as usize);
+    let high = random.pick(&[8, 20, 100]);
+    let resistances = scattered(random, width_count, high.min(20));
+    let capacitances = scattered(random, width_count, high.min(20));
+    let drives = scattered(random, size_count, high);
+    let gates = scattered(random, size_count, high);
+    let fixed = random.below(size_count) as u8;
+    let mut plan = Plan {
+        stages: vec![[fixed, fixed]],
+        ..Plan::default()
+    };
+    plan.widths = (0..width_count)
+        .map(|i| [resistances[width_count - 1 - i], capacitances[i]])
+        .collect();
+    plan.sizes = (0..size_count)
+        .map(|i| [drives[size_count - 1 - i], gates[i], random.between(0, 3)])
+        .collect();
+    plan.stages
+        .extend(vec![[0, size_count as u8 - 1]; random.pick(&[1, 2, 3, 3])]);
+    let shape = random.pick(&SHAPES);
+    for segment in 0..random.between(1, 4) as usize {
+        let (parent, length) = (parent_byte(random, shape, segment), random.between(1, 2));
+        let (capacitance, weight) = (random.between(0, 6), random.pick(&[0, 1, 1, 1, 2]));
+        plan.segments.push(segment_with_sink(
+            parent,
+            length,
+            capacitance,
+            weight,
+            [0, width_count as u8 - 1],
+        ));
+    }
+    narrow(random, &mut plan, most);
+    plan
+}
+
+/// The driver resistance at which two neighbouring widths tie in a star of `count` equal segments, if it is a whole one.
+fn tying_resistance(widths: [[u32; 2]; 2], length: u32, capacitance: u32, count: u32) -> Option<u32> {
+    let [[r, c], [s, d]] = widths;
+    let narrower = r * (length * c + 2 * capacitance);
+    let wider = s * (length * d + 2 * capacitance);
+    let difference = narrower.checked_sub(wider)?;
+    let divisor = 2 * count * (d - c);
+    if difference % divisor == 0 && (1..=100_000).contains(&(difference / divisor)) {
+        Some(difference / divisor)
+    } else {
+        None
+    }
+}
+
+/// A plan of `count` equal segments at the source, each of which ties between two widths, behind one or more fixed or free stages.
+pub fn tied_star(random: &mut Random, count: usize) -> Plan {
+    loop {
+        let widths = table(random, 2, 32);
+        let (length, capacitance) = (random.between(1, 3), random.between(0, 99));
+        let weight = random.between(1, 3) as u8;
+        if let Some(resistance) = tying_resistance([widths[0], widths[1]], length, capacitance, count as u32) {
+            let sizes = vec![[resistance + 9, 2, 1], [resistance, 5, 0]];
+            let mut stages = vec![[1, 1]];
+            for _ in 0..random.below(4) {
+                let last = stages.len() - 1;
+                stages[last] = if last == 0 || random.once_in(2) {
+                    stages[last]
+                } else {
+                    [0, 1]
+                };
+                stages.push([1, 1]);
+            }
+            let segments = vec![segment_with_sink(0, length, capacitance, weight, [0, 1]); count];
+            return Plan {
+                widths,
+                sizes,
+                stages,
+                segments,
+            };
+        }
+    }
+}
+
+/// A tied star in which some segments differ from the rest in length, sink or range.
+pub fn nearly_tied_plan(random: &mut Random, most: u128) -> Plan {
+    let count = random.between(1, 7) as usize;
+    let mut plan = tied_star(random, count);
+    for segment in 1..count {
+        match random.below(8) {
+            0 => plan.segments[segment].length += 1,
+            1 => plan.segments[segment].capacitance += 1,
+            2 => plan.segments[segment].lowest = 1,
+            3 => plan.segments[segment].highest = 0,
+            _ => {}
+        }
+    }
+    narrow(random, &mut plan, most);
+    plan
+}
+
+/// A small valid job's plan: of any kind, with stages and widths that pull each other, or with ties.
+pub fn small_plan(random: &mut Random, most: u128) -> Plan {
+    let segments = random.pick(&[1, 1, 2, 2, 3, 3, 4, 4, 5, 5, 6, 7, 9, 12]);
+    match random.below(4) {
+        0 | 1 => plan_of(random, segments, most),
+        2 => pulling_plan(random, most),
+        _ => nearly_tied_plan(random, most),
+    }
+}
+
+/// A valid job's plan of 10 to 64 segments whose ranges are not narrowed.
+pub fn large_plan(random: &mut Random) -> Plan {
+    let segments = random.between(10, 64) as usize;
+    if random.once_in(2) {
+        plan_of(random, segments, u128::MAX)
+    } else {
+        geometric_plan(random, segments)
+    }
+}
+
+/// A plan of many segments in which resistance falls and capacitance rises by a factor from row to row, as in clock nets.
+fn geometric_plan(random: &mut Random, segments: usize) -> Plan {
+    let (factor, width_count) = (random.between(2, 4), random.between(2, 4));
+    let (resistance, capacitance) = (random.between(48, 100), random.between(1, 6));
+    let (drive, gate) = (random.between(10_000, 100_000), random.between(1, 60));
+    let shape = random.pick(&[Shape::Binary, Shape::Binary, Shape::Any, Shape::Comb]);
+    let mut plan = Plan {
+        stages: vec![[0, 0], [0, 4], [0, 4]],
+        ..Plan::default()
+    };
+    plan.widths = (0..width_count).map(|i| [resistance >> i, capacitance << i]).collect();
+    plan.sizes = (0..5)
+        .map(|i| [drive / factor.pow(i), gate * factor.pow(i), gate * factor.pow(i) / 2])
+        .collect();
+    for segment in 0..segments {
+        let (parent, length) = (parent_byte(random, shape, segment), random.between(5, 80));
+        let (capacitance, weight) = (random.between(100, 400), random.pick(&[1, 2, 3, 4, 8, 12, 20]));
+        plan.segments.push(segment_with_sink(
+            parent,
+            length,
+            capacitance,
+            weight,
+            [0, width_count as u8 - 1],
+        ));
+    }
+    plan
+}
+
+/// A job without weights whose room is all its allowed sizings, given as the count of indices at each free place.
+pub fn weightless_plan(random: &mut Random, stage_counts: &[u8], segment_counts: &[u8]) -> Plan {
+    let widths = (0..8).map(|i| [20 - i, 1 + i]).collect();
+    let sizes = (0..16).map(|i| [90 - i, 1 + i, i]).collect();
+    let mut plan = Plan {
+        widths,
+        sizes,
+        stages: vec![[3, 3]],
+        segments: Vec::new(),
+    };
+    plan.stages.extend(stage_counts.iter().map(|count| [0, count - 1]));
+    let shape = random.pick(&SHAPES);
+    for (segment, count) in segment_counts.iter().enumerate() {
+        let parent = parent_byte(random, shape, segment);
+        plan.segments.push(segment_with_sink(
+            parent,
+            random.between(1, 9),
+            random.between(0, 9),
+            0,
+            [8 - count, 7],
+        ));
+    }
+    plan
+}
+
+/// A job without weights and with too much room to be searched.
+pub fn roomy_plan(random: &mut Random) -> Plan {
+    let free = random.between(9, 14) as usize;
+    let counts: Vec<u8> = (0..free).map(|_| random.between(4, 8) as u8).collect();
+    weightless_plan(random, &[], &counts)
+}
+
+/// Buffer bytes that are easy to tell from an answer.
+pub fn marked(length: usize) -> Vec<u8> {
+    (0..length).map(|i| 0xa0 | (i as u8 & 15)).collect()
+}
+
+/// An allowed sizing of a plan.
+pub fn allowed_sizing(random: &mut Random, plan: &Plan) -> Vec<u8> {
+    plan.ranges()
+        .iter()
+        .map(|&[lowest, highest]| random.between(lowest.into(), highest.into()) as u8)
+        .collect()
+}
+
+/// Puts an index out of its range at a random place.
+fn spoil(random: &mut Random, plan: &Plan, sizing: &mut [u8]) {
+    let place = random.below(sizing.len());
+    let [lowest, highest] = plan.ranges()[place];
+    sizing[place] = random.pick(&[lowest.wrapping_sub(1), highest + 1, 255]);
+}
+
+/// A sizing of a plan: mostly allowed, else with an index out of range, too short, longer, or out of range and of another length.
+pub fn any_sizing(random: &mut Random, plan: &Plan) -> Vec<u8> {
+    let mut sizing = allowed_sizing(random, plan);
+    if random.once_in(7) {
+        spoil(random, plan, &mut sizing);
+    }
+    match random.below(8) {
+        0 => {
+            let length = random.pick(&[0, 1, sizing.len() - 1, sizing.len() - 1, sizing.len() / 2]);
+            sizing.truncate(length);
+        }
+        1 | 2 => {
+            let extra = random.between(1, 9) as usize;
+            sizing.extend(random.bytes(extra));
+        }
+        _ => {}
+    }
+    sizing
+}
+
+/// A place: mostly one of the P places, else at or behind the end.
+pub fn any_place(random: &mut Random, places: usize) -> usize {
+    let inside = random.below(places);
+    let outside = [
+        places,
+        places + 1,
+        68,
+        69,
+        255,
+        256,
+        256 + inside,
+        (1 << 32) + inside,
+        (1 << 63) + inside,
+        usize::MAX,
+    ];
+    if random.once_in(5) { random.pick(&outside) } else { inside }
+}
+
+/// A side as the interface takes it: 0 is below, all else above.
+pub fn any_side(random: &mut Random) -> u32 {
+    random.pick(&[0, 0, 0, 1, 1, 2, 256, u32::MAX])
+}
+
+/// A reply buffer: exact, one byte short, empty, too short, or longer.
+pub fn any_reply(random: &mut Random, places: usize) -> Vec<u8> {
+    let exact = 8 * (1 + places);
+    let short = random.below(exact);
+    let longer = exact + random.between(1, 40) as usize;
+    let length = random.pick(&[exact, exact, exact, longer, longer, longer, exact - 1, exact - 8, 0, short]);
+    marked(length)
+}

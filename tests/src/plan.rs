@@ -1,0 +1,107 @@
+//! A job written field by field, before it becomes bytes.
+
+use crate::questions::product;
+
+/// A segment's fields as they stand in its record.
+#[derive(Clone, Debug)]
+pub struct PlannedSegment {
+    pub parent: u8,
+    pub sink: u8,
+    pub length: u32,
+    pub capacitance: u32,
+    pub weight: u8,
+    pub lowest: u8,
+    pub highest: u8,
+}
+
+/// A job's fields: widths as resistance and capacitance, sizes as resistance, gate and output, stages as lowest and highest.
+#[derive(Clone, Debug, Default)]
+pub struct Plan {
+    pub widths: Vec<[u32; 2]>,
+    pub sizes: Vec<[u32; 3]>,
+    pub stages: Vec<[u8; 2]>,
+    pub segments: Vec<PlannedSegment>,
+}
+
+impl Plan {
+    /// The number of places.
+    pub fn places(&self) -> usize {
+        self.stages.len() + self.segments.len()
+    }
+
+    /// The lowest and the highest index of each place.
+    pub fn ranges(&self) -> Vec<[u8; 2]> {
+        let segments = self.segments.iter().map(|segment| [segment.lowest, segment.highest]);
+        self.stages.iter().copied().chain(segments).collect()
+    }
+
+    /// How many sizings the ranges allow.
+    pub fn allowed_sizings(&self) -> u128 {
+        product(self.ranges().iter().map(|[lowest, highest]| u128::from(highest - lowest) + 1))
+    }
+
+    /// Sets the range of a place.
+    pub fn set_range(&mut self, place: usize, range: [u8; 2]) {
+        match place.checked_sub(self.stages.len()) {
+            None => self.stages[place] = range,
+            Some(segment) => [self.segments[segment].lowest, self.segments[segment].highest] = range,
+        }
+    }
+
+    /// The job's bytes, with the numbers counted from 0 in each kind.
+    pub fn bytes(&self) -> Vec<u8> {
+        let mut job = Vec::new();
+        for (i, &[resistance, capacitance]) in self.widths.iter().enumerate() {
+            job.extend(record([1, i as u8, 0, 0], [resistance, capacitance, 0]));
+        }
+        for (i, &figures) in self.sizes.iter().enumerate() {
+            job.extend(record([2, i as u8, 0, 0], figures));
+        }
+        for (i, &[lowest, highest]) in self.stages.iter().enumerate() {
+            job.extend(record([3, i as u8, lowest, highest], [0, 0, 0]));
+        }
+        for (i, segment) in self.segments.iter().enumerate() {
+            let last = u32::from_le_bytes([segment.weight, segment.lowest, segment.highest, 0]);
+            job.extend(record(
+                [4, i as u8, segment.parent, segment.sink],
+                [segment.length, segment.capacitance, last],
+            ));
+        }
+        job
+    }
+}
+
+/// The sixteen bytes of a record out of its first four and three numbers.
+fn record(start: [u8; 4], numbers: [u32; 3]) -> Vec<u8> {
+    let mut bytes = start.to_vec();
+    for number in numbers {
+        bytes.extend(number.to_le_bytes());
+    }
+    bytes
+}
+
+/// A segment with a sink.
+pub fn segment_with_sink(parent: u8, length: u32, capacitance: u32, weight: u8, range: [u8; 2]) -> PlannedSegment {
+    PlannedSegment {
+        parent,
+        sink: 1,
+        length,
+        capacitance,
+        weight,
+        lowest: range[0],
+        highest: range[1],
+    }
+}
+
+/// A segment without a sink.
+pub fn segment_without_sink(parent: u8, length: u32, range: [u8; 2]) -> PlannedSegment {
+    PlannedSegment {
+        parent,
+        sink: 0,
+        length,
+        capacitance: 0,
+        weight: 0,
+        lowest: range[0],
+        highest: range[1],
+    }
+}

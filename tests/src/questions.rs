@@ -1,0 +1,284 @@
+//! Questions 1 to 11 of a job, asked one after the other, and the net that a job describes.
+
+/// The bytes of one record.
+pub const RECORD: usize = 16;
+
+/// A row of the table of widths, for each unit of length.
+pub struct Width {
+    pub resistance: u64,
+    pub capacitance: u64,
+}
+
+/// A row of the table of driver sizes.
+pub struct Size {
+    pub resistance: u64,
+    pub gate: u64,
+    pub output: u64,
+}
+
+/// A sink at the far end of a segment.
+pub struct Sink {
+    pub capacitance: u64,
+    pub weight: u64,
+}
+
+/// A segment of wire: the segment it hangs on, or the source, its length and its sink.
+pub struct Segment {
+    pub parent: Option<usize>,
+    pub length: u64,
+    pub sink: Option<Sink>,
+}
+
+/// The indices allowed at a place, both ends included.
+#[derive(Clone, Copy)]
+pub struct Range {
+    pub lowest: u8,
+    pub highest: u8,
+}
+
+/// What a job describes; `ranges` has one entry for each place, stages first.
+pub struct Net {
+    pub widths: Vec<Width>,
+    pub sizes: Vec<Size>,
+    pub stages: usize,
+    pub segments: Vec<Segment>,
+    pub ranges: Vec<Range>,
+    /// For each segment, the segments from itself up to the source.
+    pub paths: Vec<Vec<usize>>,
+    /// Whether the path of the first segment to the source passes through the second.
+    pub passes: Vec<Vec<bool>>,
+}
+
+impl Net {
+    /// The number of places, P.
+    pub fn places(&self) -> usize {
+        self.ranges.len()
+    }
+
+    /// The sizing with the lowest allowed index at each place.
+    pub fn lowest(&self) -> Vec<u8> {
+        self.ranges.iter().map(|range| range.lowest).collect()
+    }
+
+    /// The sizing with the highest allowed index at each place.
+    pub fn highest(&self) -> Vec<u8> {
+        self.ranges.iter().map(|range| range.highest).collect()
+    }
+
+    /// How many sizings are allowed.
+    pub fn allowed_sizings(&self) -> u128 {
+        product(self.ranges.iter().map(|range| u128::from(range.highest - range.lowest) + 1))
+    }
+}
+
+/// A product, or the largest number where it is greater than that.
+pub fn product(factors: impl Iterator<Item = u128>) -> u128 {
+    factors.fold(1, u128::saturating_mul)
+}
+
+/// The four bytes of a record from `at` on, lowest first.
+fn number(record: &[u8], at: usize) -> u64 {
+    (0..4).map(|i| u64::from(record[at + i]) << (8 * i)).sum()
+}
+
+/// The records of one kind, in their order.
+fn of_kind(job: &[u8], kind: u8) -> Vec<&[u8]> {
+    job.chunks(RECORD).filter(|record| record[0] == kind).collect()
+}
+
+/// Question 1: is the length above 0 and a multiple of 16?
+fn question_1(job: &[u8]) -> bool {
+    !job.is_empty() && job.len().is_multiple_of(RECORD)
+}
+
+/// Question 2: is every kind 1 to 4, never falling?
+fn question_2(job: &[u8]) -> bool {
+    let kinds: Vec<u8> = job.chunks(RECORD).map(|record| record[0]).collect();
+    kinds.iter().all(|kind| (1..=4).contains(kind)) && kinds.windows(2).all(|pair| pair[0] <= pair[1])
+}
+
+/// Question 3: is each kind's count in its range?
+fn question_3(job: &[u8]) -> bool {
+    [(1, 8), (2, 16), (3, 4), (4, 64)]
+        .iter()
+        .all(|&(kind, most)| (1..=most).contains(&of_kind(job, kind).len()))
+}
+
+/// Question 4: do numbers count from 0 in each kind?
+fn question_4(job: &[u8]) -> bool {
+    (1..=4).all(|kind| {
+        of_kind(job, kind)
+            .iter()
+            .enumerate()
+            .all(|(i, record)| usize::from(record[1]) == i)
+    })
+}
+
+/// The bytes of a record that the format names, the kind and the number included.
+fn named_bytes(kind: u8) -> &'static [usize] {
+    match kind {
+        1 => &[0, 1, 4, 5, 6, 7, 8, 9, 10, 11],
+        2 => &[0, 1, 4, 5, 6, 7, 8, 9, 10, 11, 12, 13, 14, 15],
+        3 => &[0, 1, 2, 3],
+        _ => &[0, 1, 2, 3, 4, 5, 6, 7, 8, 9, 10, 11, 12, 13, 14],
+    }
+}
+
+/// Whether a segment's record has sink byte 0 and yet a capacitance or a weight.
+fn has_stray_sink(record: &[u8]) -> bool {
+    record[3] == 0 && (number(record, 8) != 0 || record[12] != 0)
+}
+
+/// Question 5: are all unnamed bytes zero, and the capacitance and weight where the sink byte is 0?
+fn question_5(job: &[u8]) -> bool {
+    let unnamed_zero = |record: &[u8]| (0..RECORD).all(|at| record[at] == 0 || named_bytes(record[0]).contains(&at));
+    job.chunks(RECORD).all(unnamed_zero) && !of_kind(job, 4).into_iter().any(has_stray_sink)
+}
+
+/// Question 6: are the values of kinds 1 and 2 in range?
+fn question_6(job: &[u8]) -> bool {
+    let width_fits = |record: &&[u8]| (1..=100).contains(&number(record, 4)) && (1..=100).contains(&number(record, 8));
+    let size_fits = |record: &&[u8]| {
+        (1..=100_000).contains(&number(record, 4))
+            && (1..=100_000).contains(&number(record, 8))
+            && (0..=100_000).contains(&number(record, 12))
+    };
+    of_kind(job, 1).iter().all(width_fits) && of_kind(job, 2).iter().all(size_fits)
+}
+
+/// Question 7: in each table, does resistance strictly fall and the capacitance of width or gate strictly rise?
+fn question_7(job: &[u8]) -> bool {
+    let ordered = |pair: &[&[u8]]| number(pair[0], 4) > number(pair[1], 4) && number(pair[0], 8) < number(pair[1], 8);
+    of_kind(job, 1).windows(2).all(ordered) && of_kind(job, 2).windows(2).all(ordered)
+}
+
+/// Question 8: is every stage's lowest at most its highest, below the count of sizes, both equal for stage 0?
+fn question_8(job: &[u8]) -> bool {
+    let sizes = of_kind(job, 2).len();
+    let stages = of_kind(job, 3);
+    stages
+        .iter()
+        .all(|record| record[2] <= record[3] && usize::from(record[3]) < sizes)
+        && stages[0][2] == stages[0][3]
+}
+
+/// Question 9: is each parent byte at most the segment's own number?
+fn question_9(job: &[u8]) -> bool {
+    of_kind(job, 4).iter().all(|record| record[2] <= record[1])
+}
+
+/// Question 10: are segment fields in range, nothing hung where there is no sink, and the range within the widths?
+fn question_10(job: &[u8]) -> bool {
+    let widths = of_kind(job, 1).len();
+    of_kind(job, 4).iter().all(|record| {
+        record[3] <= 1
+            && (1..=1_000).contains(&number(record, 4))
+            && (0..=100_000).contains(&number(record, 8))
+            && !has_stray_sink(record)
+            && record[13] <= record[14]
+            && usize::from(record[14]) < widths
+    })
+}
+
+/// Question 11: has every segment without branches a sink?
+fn question_11(job: &[u8]) -> bool {
+    let segments = of_kind(job, 4);
+    let has_branch = |segment: &[u8]| {
+        segments
+            .iter()
+            .any(|other| usize::from(other[2]) == usize::from(segment[1]) + 1)
+    };
+    segments.iter().all(|segment| has_branch(segment) || segment[3] == 1)
+}
+
+/// The number of the first question of 1 to 11 whose answer is no, or 0.
+pub fn first_no(job: &[u8]) -> u64 {
+    let questions: [fn(&[u8]) -> bool; 11] = [
+        question_1,
+        question_2,
+        question_3,
+        question_4,
+        question_5,
+        question_6,
+        question_7,
+        question_8,
+        question_9,
+        question_10,
+        question_11,
+    ];
+    for (i, question) in questions.iter().enumerate() {
+        if !question(job) {
+            return i as u64 + 1;
+        }
+    }
+    0
+}
+
+/// One segment out of its record.
+fn read_segment(record: &[u8]) -> Segment {
+    let sink = Sink {
+        capacitance: number(record, 8),
+        weight: u64::from(record[12]),
+    };
+    Segment {
+        parent: usize::from(record[2]).checked_sub(1),
+        length: number(record, 4),
+        sink: if record[3] == 1 { Some(sink) } else { None },
+    }
+}
+
+/// The segments from one segment up to the source, itself first.
+fn path_to_source(segments: &[Segment], segment: usize) -> Vec<usize> {
+    let mut path = vec![segment];
+    let mut at = segment;
+    while let Some(parent) = segments[at].parent {
+        path.push(parent);
+        at = parent;
+    }
+    path
+}
+
+/// The net of a job, or the number of the first question that it fails.
+pub fn read(job: &[u8]) -> Result<Net, u64> {
+    let refusal = first_no(job);
+    if refusal != 0 {
+        return Err(refusal);
+    }
+    let width = |record: &&[u8]| Width {
+        resistance: number(record, 4),
+        capacitance: number(record, 8),
+    };
+    let size = |record: &&[u8]| Size {
+        resistance: number(record, 4),
+        gate: number(record, 8),
+        output: number(record, 12),
+    };
+    let stage_range = |record: &&[u8]| Range {
+        lowest: record[2],
+        highest: record[3],
+    };
+    let segment_range = |record: &&[u8]| Range {
+        lowest: record[13],
+        highest: record[14],
+    };
+    let segments: Vec<Segment> = of_kind(job, 4).into_iter().map(read_segment).collect();
+    let count = segments.len();
+    let paths: Vec<Vec<usize>> = (0..count).map(|s| path_to_source(&segments, s)).collect();
+    let passes = (0..count)
+        .map(|s| (0..count).map(|through| paths[s].contains(&through)).collect())
+        .collect();
+    let ranges = of_kind(job, 3)
+        .iter()
+        .map(stage_range)
+        .chain(of_kind(job, 4).iter().map(segment_range))
+        .collect();
+    Ok(Net {
+        widths: of_kind(job, 1).iter().map(width).collect(),
+        sizes: of_kind(job, 2).iter().map(size).collect(),
+        stages: of_kind(job, 3).len(),
+        segments,
+        ranges,
+        paths,
+        passes,
+    })
+}

@@ -1,0 +1,352 @@
+//! The independent search: every operation from its definition, by walking each sink's path and trying every sizing.
+
+use crate::questions::{Net, product, read};
+
+/// The largest room that is searched.
+pub const MOST_ROOM: u128 = 65_536;
+
+/// The side from which refine breaks a tie.
+#[derive(Clone, Copy, PartialEq, Eq, Debug)]
+pub enum Side {
+    Below,
+    Above,
+}
+
+/// What measure answers; delay and load are 0 where the number is not.
+#[derive(Clone, Copy, PartialEq, Eq, Debug)]
+pub struct Measured {
+    pub number: u64,
+    pub delay: u128,
+    pub load: u128,
+}
+
+/// What refine answers; the index is 0 where the number is not.
+#[derive(Clone, Copy, PartialEq, Eq, Debug)]
+pub struct Refined {
+    pub number: u64,
+    pub index: u8,
+}
+
+/// Which of the two sizings choose hands back.
+#[derive(Clone, Copy, PartialEq, Eq, Debug)]
+pub enum Choice {
+    None,
+    First,
+    Second,
+}
+
+/// The lower and the upper bound of a net.
+#[derive(Clone, PartialEq, Eq, Debug)]
+pub struct Bounds {
+    pub lower: Vec<u8>,
+    pub upper: Vec<u8>,
+}
+
+/// The least delay of a net, and the extremes of the sizings that have it.
+#[derive(Clone, PartialEq, Eq, Debug)]
+pub struct Least {
+    pub delay: u128,
+    pub lean: Vec<u8>,
+    pub wide: Vec<u8>,
+}
+
+/// A way to find the bounds of a net and its least-delay sizings.
+pub struct Way {
+    pub bounds: fn(&Net) -> Bounds,
+    pub least: fn(&Net, &Bounds) -> Least,
+}
+
+/// The way that tries every allowed sizing.
+pub const EXHAUSTIVE: Way = Way {
+    bounds: exhaustive_bounds,
+    least: exhaustive_least,
+};
+
+/// The electrical figures of the wires under one sizing.
+struct Wires {
+    resistance: Vec<u128>,
+    capacitance: Vec<u128>,
+    under: Vec<u128>,
+    whole_tree: u128,
+}
+
+/// The capacitance of the sink at the far end of a segment, 0 where there is none.
+fn sink_capacitance(net: &Net, segment: usize) -> u128 {
+    net.segments[segment]
+        .sink
+        .as_ref()
+        .map_or(0, |sink| u128::from(sink.capacitance))
+}
+
+/// Everything strictly under a segment: each other wire and each sink whose path to the source passes through it.
+fn load_under(net: &Net, capacitance: &[u128], segment: usize) -> u128 {
+    let mut load = 0;
+    for (other, wire) in capacitance.iter().enumerate() {
+        if net.passes[other][segment] {
+            load += sink_capacitance(net, other);
+            if other != segment {
+                load += wire;
+            }
+        }
+    }
+    load
+}
+
+/// Resistance, capacitance and load under each segment, and the load of the whole tree, for one sizing.
+fn wires(net: &Net, sizing: &[u8]) -> Wires {
+    let count = net.segments.len();
+    let row = |segment: usize| &net.widths[usize::from(sizing[net.stages + segment])];
+    let resistance: Vec<u128> = (0..count)
+        .map(|s| u128::from(row(s).resistance * net.segments[s].length))
+        .collect();
+    let capacitance: Vec<u128> = (0..count)
+        .map(|s| u128::from(row(s).capacitance * net.segments[s].length))
+        .collect();
+    let under = (0..count).map(|s| load_under(net, &capacitance, s)).collect();
+    let whole_tree = (0..count).map(|s| capacitance[s] + sink_capacitance(net, s)).sum();
+    Wires {
+        resistance,
+        capacitance,
+        under,
+        whole_tree,
+    }
+}
+
+/// The delay of the chain of stages: each drives its own output and the next gate, the last drives the tree.
+fn stages_delay(net: &Net, sizing: &[u8], whole_tree: u128) -> u128 {
+    let size = |stage: usize| &net.sizes[usize::from(sizing[stage])];
+    let mut delay = 0;
+    for stage in 0..net.stages {
+        let driven = if stage + 1 < net.stages {
+            u128::from(size(stage + 1).gate)
+        } else {
+            whole_tree
+        };
+        delay += u128::from(size(stage).resistance) * (u128::from(size(stage).output) + driven);
+    }
+    delay
+}
+
+/// Twice the delay of the wires from the source to the far end of a segment.
+fn doubled_path_delay(net: &Net, wires: &Wires, segment: usize) -> u128 {
+    net.paths[segment]
+        .iter()
+        .map(|&s| wires.resistance[s] * (wires.capacitance[s] + 2 * wires.under[s]))
+        .sum()
+}
+
+/// The scaled delay of an allowed sizing: twice the sum over the sinks of weight times delay.
+pub fn scaled_delay(net: &Net, sizing: &[u8]) -> u128 {
+    let wires = wires(net, sizing);
+    let mut delay = 0;
+    for (segment, of_segment) in net.segments.iter().enumerate() {
+        if let Some(sink) = &of_segment.sink {
+            let doubled = 2 * stages_delay(net, sizing, wires.whole_tree) + doubled_path_delay(net, &wires, segment);
+            delay += u128::from(sink.weight) * doubled;
+        }
+    }
+    delay
+}
+
+/// The load figure: all wires, all sinks, and the gates of stages 1 and up.
+pub fn load_figure(net: &Net, sizing: &[u8]) -> u128 {
+    let gates: u128 = (1..net.stages)
+        .map(|stage| u128::from(net.sizes[usize::from(sizing[stage])].gate))
+        .sum();
+    wires(net, sizing).whole_tree + gates
+}
+
+/// The best index at a place, the rest held: the smallest of the best from below, the largest from above.
+pub fn best_index(net: &Net, sizing: &[u8], place: usize, side: Side) -> u8 {
+    let mut tried = sizing[..net.places()].to_vec();
+    let mut best: Option<(u128, u8)> = None;
+    for index in net.ranges[place].lowest..=net.ranges[place].highest {
+        tried[place] = index;
+        let delay = scaled_delay(net, &tried);
+        let better = match best {
+            None => true,
+            Some((least, _)) => delay < least || (delay == least && side == Side::Above),
+        };
+        if better {
+            best = Some((delay, index));
+        }
+    }
+    best.expect("a range holds an index").1
+}
+
+/// Whether refine leaves a sizing as it is at every place.
+pub fn rests(net: &Net, sizing: &[u8], side: Side) -> bool {
+    (0..net.places()).all(|place| best_index(net, sizing, place, side) == sizing[place])
+}
+
+/// Every sizing from one to another, place by place, both included.
+pub fn sizings_between(low: &[u8], high: &[u8]) -> Vec<Vec<u8>> {
+    let mut sizings = vec![Vec::new()];
+    for place in 0..low.len() {
+        sizings = sizings
+            .iter()
+            .flat_map(|start: &Vec<u8>| (low[place]..=high[place]).map(move |index| [&start[..], &[index]].concat()))
+            .collect();
+    }
+    sizings
+}
+
+/// At each place the smallest index that a list of sizings has there.
+fn smallest(sizings: &[&Vec<u8>]) -> Vec<u8> {
+    (0..sizings[0].len())
+        .map(|place| sizings.iter().map(|sizing| sizing[place]).min().expect("a sizing"))
+        .collect()
+}
+
+/// At each place the largest index that a list of sizings has there.
+fn largest(sizings: &[&Vec<u8>]) -> Vec<u8> {
+    (0..sizings[0].len())
+        .map(|place| sizings.iter().map(|sizing| sizing[place]).max().expect("a sizing"))
+        .collect()
+}
+
+/// The least delay of a list of sizings, and the extremes of those that have it.
+pub fn least_of(net: &Net, sizings: &[Vec<u8>]) -> Least {
+    let delays: Vec<u128> = sizings.iter().map(|sizing| scaled_delay(net, sizing)).collect();
+    let delay = *delays.iter().min().expect("a sizing");
+    let best: Vec<&Vec<u8>> = sizings
+        .iter()
+        .zip(&delays)
+        .filter(|(_, d)| **d == delay)
+        .map(|(sizing, _)| sizing)
+        .collect();
+    Least {
+        delay,
+        lean: smallest(&best),
+        wide: largest(&best),
+    }
+}
+
+/// The bounds by their definition: the extremes of all allowed sizings that refine leaves as they are.
+pub fn exhaustive_bounds(net: &Net) -> Bounds {
+    let allowed = sizings_between(&net.lowest(), &net.highest());
+    let resting = |side: Side| allowed.iter().filter(|sizing| rests(net, sizing, side)).collect::<Vec<_>>();
+    Bounds {
+        lower: smallest(&resting(Side::Below)),
+        upper: largest(&resting(Side::Above)),
+    }
+}
+
+/// The least delay, lean and wide over all allowed sizings; the bounds are not used.
+pub fn exhaustive_least(net: &Net, _bounds: &Bounds) -> Least {
+    least_of(net, &sizings_between(&net.lowest(), &net.highest()))
+}
+
+/// Room: how many sizings lie between the bounds.
+pub fn room(bounds: &Bounds) -> u128 {
+    product(
+        bounds
+            .lower
+            .iter()
+            .zip(&bounds.upper)
+            .map(|(lower, upper)| u128::from(upper - lower) + 1),
+    )
+}
+
+/// Questions 15 and 16 of a list of sizings: the number of the first no, or 0.
+fn sizing_refusal(net: &Net, sizings: &[&[u8]]) -> u64 {
+    if sizings.iter().any(|sizing| sizing.len() < net.places()) {
+        return 15;
+    }
+    let fits = |sizing: &&[u8]| {
+        net.ranges
+            .iter()
+            .zip(*sizing)
+            .all(|(r, index)| (r.lowest..=r.highest).contains(index))
+    };
+    if sizings.iter().all(fits) { 0 } else { 16 }
+}
+
+/// The net of a job with allowed sizings, or the first number of 1 to 11, 15 and 16 that refuses.
+fn read_with_sizings(job: &[u8], sizings: &[&[u8]]) -> Result<Net, u64> {
+    let net = read(job)?;
+    match sizing_refusal(&net, sizings) {
+        0 => Ok(net),
+        number => Err(number),
+    }
+}
+
+/// The operation measure.
+pub fn measure(job: &[u8], sizing: &[u8]) -> Measured {
+    match read_with_sizings(job, &[sizing]) {
+        Err(number) => Measured {
+            number,
+            delay: 0,
+            load: 0,
+        },
+        Ok(net) => Measured {
+            number: 0,
+            delay: scaled_delay(&net, sizing),
+            load: load_figure(&net, sizing),
+        },
+    }
+}
+
+/// The operation refine.
+pub fn refine(job: &[u8], sizing: &[u8], place: usize, side: Side) -> Refined {
+    match read_with_sizings(job, &[sizing]) {
+        Err(number) => Refined { number, index: 0 },
+        Ok(net) if place >= net.places() => Refined { number: 17, index: 0 },
+        Ok(net) => Refined {
+            number: 0,
+            index: best_index(&net, sizing, place, side),
+        },
+    }
+}
+
+/// The operation choose.
+pub fn choose(job: &[u8], x: &[u8], y: &[u8]) -> Choice {
+    match read_with_sizings(job, &[x, y]) {
+        Err(_) => Choice::None,
+        Ok(net) if scaled_delay(&net, x) <= scaled_delay(&net, y) => Choice::First,
+        Ok(_) => Choice::Second,
+    }
+}
+
+/// The part of its sizing that choose hands back.
+pub fn chosen<'a>(job: &[u8], x: &'a [u8], y: &'a [u8]) -> &'a [u8] {
+    let part = match choose(job, x, y) {
+        Choice::None => return &[],
+        Choice::First => x,
+        Choice::Second => y,
+    };
+    &part[..read(job).map_or(0, |net| net.places())]
+}
+
+/// Writes a reply: the delay's eight bytes, then a record for each place.
+fn write_reply(reply: &mut [u8], delay: [u8; 8], bounds: &Bounds, lean: &[u8], wide: &[u8]) {
+    reply[..8].copy_from_slice(&delay);
+    for place in 0..lean.len() {
+        let record = [bounds.lower[place], bounds.upper[place], lean[place], wide[place], 0, 0, 0, 0];
+        reply[8 * (1 + place)..8 * (2 + place)].copy_from_slice(&record);
+    }
+}
+
+/// The operation size, with the bounds and the least-delay sizings found in a given way.
+pub fn size(job: &[u8], reply: &mut [u8], way: &Way) -> u64 {
+    let net = match read(job) {
+        Err(number) => return number,
+        Ok(net) => net,
+    };
+    if reply.len() < 8 * (1 + net.places()) {
+        return 12;
+    }
+    let bounds = (way.bounds)(&net);
+    if bounds.lower.iter().zip(&bounds.upper).any(|(lower, upper)| lower > upper) {
+        return 13;
+    }
+    if room(&bounds) > MOST_ROOM {
+        let unknown = vec![255; net.places()];
+        write_reply(reply, [255; 8], &bounds, &unknown, &unknown);
+        return 14;
+    }
+    let least = (way.least)(&net, &bounds);
+    let delay = u64::try_from(least.delay).expect("a delay below 2^63");
+    write_reply(reply, delay.to_le_bytes(), &bounds, &least.lean, &least.wide);
+    0
+}

@@ -1,0 +1,110 @@
+//! The library against the reference, call by call; nothing is compared when the library is not there.
+#![cfg(library_present)]
+
+use numlejka_tests::batches::{
+    Counts, MOST_ALLOWED, damaged_calls, large_calls, largest_calls, limit_calls, operation, room_calls, small_calls,
+    worked_calls,
+};
+use numlejka_tests::calls::{Call, expected, hex};
+use numlejka_tests::interface::run;
+use numlejka_tests::random::{Random, SEED};
+
+/// How many small jobs one test tries; there are two such tests.
+const SMALL_JOBS: usize = 12_000;
+
+/// How many damaged jobs are tried.
+const DAMAGED_JOBS: usize = 24_000;
+
+/// How many jobs of many segments are tried.
+const LARGE_JOBS: usize = 150;
+
+/// Runs a call and compares its number and every byte of its buffer; a difference stops with the call's text.
+fn compare(counts: &mut Counts, call: &Call) {
+    let (want, got) = (expected(call), run(call));
+    assert!(
+        want == got,
+        "the library differs\n  expected {} {}\n  got      {} {}\n  again: CALL='{}' cargo test --release again",
+        want.number,
+        hex(&want.buffer),
+        got.number,
+        hex(&got.buffer),
+        call.text()
+    );
+    *counts.entry((operation(call), want.number)).or_default() += 1;
+}
+
+/// Compares all calls and prints how often each operation gave each number.
+fn compare_all(name: &str, calls: impl Iterator<Item = Call>) {
+    let mut counts = Counts::new();
+    calls.for_each(|call| compare(&mut counts, &call));
+    println!("{name}, seed {SEED:#x}: {} calls, {counts:?}", counts.values().sum::<usize>());
+}
+
+/// Small random jobs over all four operations.
+#[test]
+fn small_jobs() {
+    let mut random = Random::new(21);
+    compare_all(
+        "small jobs",
+        (0..SMALL_JOBS).flat_map(|_| small_calls(&mut random, MOST_ALLOWED)),
+    );
+}
+
+/// As many again with other numbers, for the second core.
+#[test]
+fn more_small_jobs() {
+    let mut random = Random::new(22);
+    compare_all(
+        "more small jobs",
+        (0..SMALL_JOBS).flat_map(|_| small_calls(&mut random, MOST_ALLOWED)),
+    );
+}
+
+/// Jobs with one to three damages over all four operations.
+#[test]
+fn damaged_jobs() {
+    let mut random = Random::new(23);
+    compare_all(
+        "damaged jobs",
+        (0..DAMAGED_JOBS).flat_map(|_| damaged_calls(&mut random, MOST_ALLOWED)),
+    );
+}
+
+/// Every field and count at its limit and beyond.
+#[test]
+fn jobs_at_the_limits() {
+    compare_all("jobs at the limits", limit_calls().into_iter());
+}
+
+/// Jobs of 68 places with the largest figures.
+#[test]
+fn largest_jobs() {
+    compare_all("largest jobs", largest_calls().into_iter());
+}
+
+/// Jobs of 10 to 64 segments, refine at every place.
+#[test]
+fn large_jobs() {
+    let mut random = Random::new(24);
+    compare_all("large jobs", (0..LARGE_JOBS).flat_map(|_| large_calls(&mut random)));
+}
+
+/// Jobs with room at, below and above 65,536.
+#[test]
+fn jobs_around_the_largest_room() {
+    compare_all("jobs around the largest room", room_calls().into_iter());
+}
+
+/// The worked jobs: every sizing, place, side and pair.
+#[test]
+fn worked_jobs() {
+    compare_all("worked jobs", worked_calls().into_iter());
+}
+
+/// One call alone, given as text in `CALL`.
+#[test]
+fn again() {
+    if let Ok(text) = std::env::var("CALL") {
+        compare_all("one call again", std::iter::once(Call::from_text(&text)));
+    }
+}
