@@ -6,7 +6,7 @@ use Prim.Native.Nat.{ℕ, _≤_, _<_}
 use native.Mathlib.Omega.{arith}
 use borrow.Author.Tests.{lt-ltb, le-ltb, le-leb, lt-leb, ne-eqb}
 use lib.Dec.{lit≤}
-use lib.ListN.{length, length-set}
+use lib.ListN.{length, take, length-set}
 use lib.Seq.{length-take-le, getD-take, getD-set-same}
 use Rattle.lattice.specs.Side.{Side}
 use Rattle.lattice.specs.Lists.{at}
@@ -19,12 +19,13 @@ use Rattle.net.specs.Sizings.{allowed}
 use Rattle.net.specs.Checked.{Checked}
 use Rattle.net.specs.Questions.{ask, firstNo, refusal}
 use Rattle.net.specs.Answers.{question15, question16, question17, sizingIn, measureNumber, measured, refineNumber, refined, chooseNumber, firstChosen, chosen}
-use Rattle.net.proofs.Answers.{Numbered, firstNo-pass, firstNo-stop, firstNo-no, firstNo-yes, job-passes, job-fails, sizingQuestions, measured-refused, measured-answered, refined-refused, refined-answered, chosen-refused, chosen-first, chosen-second}
+use Rattle.net.proofs.Answers.{Numbered, firstNo-pass, firstNo-stop, firstNo-no, firstNo-yes, job-passes, job-fails, sizingQuestions, measured-refused, measured-answered, refined-refused, refined-answered, chosen-refused}
 use Rattle.net.proofs.Places.{delay-take, loadFigure-take}
 use Rattle.net.proofs.Questions.{ordered, allowed-iff}
 use Rattle.allowed.specs.Number.{sizingNumber}
 use Rattle.allowed.proofs.Numbers.{number-ranges}
-use Rattle.operations.specs.Outcomes.{fromSecond}
+use Rattle.operations.specs.declared.Preference.the-variants.{First, Second, Neither}
+use Rattle.operations.specs.Outcomes.{Preferred, fromSecond}
 
 -- the sizing in a buffer that passes questions 15 and 16 is allowed
 pub sizing-allowed : (net : Net) (x : List ℕ) → sizingNumber net x ≡ 0 → Allowed (allowed net) (sizingIn net x)
@@ -133,13 +134,22 @@ module _ (job x y : List ℕ) where
     pub empty : r ≡ chosen job x y
     pub notSecond : fromSecond job x y ≡ false
 
-  refusal-of : (chooseNumber job x y ≡ 0 → ⊥) → Refusal []
+  pub choose-neither : (chooseNumber job x y ≡ 0 → ⊥) → Refusal []
   unfolding fromSecond
-  refusal-of z = record { empty = sym (chosen-refused job x y z); notSecond = rw (ne-eqb (chooseNumber job x y) 0 z) }
+  choose-neither z = record { empty = sym (chosen-refused job x y z); notSecond = rw (ne-eqb (chooseNumber job x y) 0 z) }
 
-  pub choose-job : (n : ℕ) → n ≡ refusal job → (n ≡ 0 → ⊥) → Refusal []
+  -- what an answer hands back: from the first slice, or from the second
+  pub choose-first : (p : ℕ) → Preferred job x y (First p) → (take p x ≡ chosen job x y) × (fromSecond job x y ≡ false)
+  unfolding chosen fromSecond
+  choose-first p f = rw (f .0, f .1, f .2) (refl, refl)
+
+  pub choose-second : (p : ℕ) → Preferred job x y (Second p) → (take p y ≡ chosen job x y) × (fromSecond job x y ≡ true)
+  unfolding chosen fromSecond
+  choose-second p f = rw (f .0, f .1, f .2) (refl, refl)
+
+  pub prefer-job : (n : ℕ) → n ≡ refusal job → (n ≡ 0 → ⊥) → Preferred job x y Neither
   unfolding chooseNumber
-  choose-job n e z = refusal-of (λ f. z (e ∙ sym (job-fails job _ (λ g. z (e ∙ g))) ∙ f))
+  prefer-job n e z f = z (e ∙ sym (job-fails job _ (λ g. z (e ∙ g))) ∙ f)
 
   module _ {c : Counts} (k : Checked c job) (passes : refusal job ≡ 0) where
     choose-is : chooseNumber job x y
@@ -147,32 +157,34 @@ module _ (job x y : List ℕ) where
     unfolding chooseNumber
     choose-is = job-passes job _ passes ∙ ap (λ n. firstNo (ask 15 (question15 n x && question15 n y) ∷ ask 16 (question16 n x && question16 n y) ∷ [])) (sym (net-is job x k passes))
 
-    pub choose-first-no : (n : ℕ) → n ≡ sizingNumber (netBy c job) x → (n ≡ 0 → ⊥) → Refusal []
+    pub prefer-first-no : (n : ℕ) → n ≡ sizingNumber (netBy c job) x → (n ≡ 0 → ⊥) → Preferred job x y Neither
     unfolding sizingNumber firstNo
-    choose-first-no n e z =
-        refusal-of (λ f. first-fails (question15 (netBy c job) x) (question16 (netBy c job) x) (question15 (netBy c job) y) (question16 (netBy c job) y)
-        (λ g. z (e ∙ g)) (sym choose-is ∙ f))
+    prefer-first-no n e z f =
+        first-fails (question15 (netBy c job) x) (question16 (netBy c job) x) (question15 (netBy c job) y) (question16 (netBy c job) y)
+        (λ g. z (e ∙ g)) (sym choose-is ∙ f)
 
-    pub choose-second-no : (n : ℕ) → n ≡ sizingNumber (netBy c job) y → (n ≡ 0 → ⊥) → Refusal []
+    pub prefer-second-no : (n : ℕ) → n ≡ sizingNumber (netBy c job) y → (n ≡ 0 → ⊥) → Preferred job x y Neither
     unfolding sizingNumber firstNo
-    choose-second-no n e z =
-        refusal-of (λ f. second-fails (question15 (netBy c job) x) (question16 (netBy c job) x) (question15 (netBy c job) y) (question16 (netBy c job) y)
-        (λ g. z (e ∙ g)) (sym choose-is ∙ f))
+    prefer-second-no n e z f =
+        second-fails (question15 (netBy c job) x) (question16 (netBy c job) x) (question15 (netBy c job) y) (question16 (netBy c job) y)
+        (λ g. z (e ∙ g)) (sym choose-is ∙ f)
+
+    places-is : places (netBy c job) ≡ places (netOf job)
+    places-is = ap places (net-is job x k passes)
 
     module _ (ex : sizingNumber (netBy c job) x ≡ 0) (ey : sizingNumber (netBy c job) y ≡ 0) (dx dy : ℕ) (fx : dx ≡ delay (netBy c job) x) (fy : dy ≡ delay (netBy c job) y) where
       number-0 : chooseNumber job x y ≡ 0
       unfolding sizingNumber firstNo
       number-0 = choose-is ∙ both-pass (question15 (netBy c job) x) (question16 (netBy c job) x) (question15 (netBy c job) y) (question16 (netBy c job) y) ex ey
 
-      -- what an answer hands back: from the first slice, or from the second
-      pub choose-first : dx ≤ dy → (sizingIn (netBy c job) x ≡ chosen job x y) × (fromSecond job x y ≡ false)
-      unfolding fromSecond firstChosen
-      choose-first h =
+      pub prefer-first : dx ≤ dy → Preferred job x y (First (places (netBy c job)))
+      unfolding firstChosen
+      prefer-first h =
           let g : delay (netOf job) (sizingIn (netOf job) x) ≤ delay (netOf job) (sizingIn (netOf job) y) = omega (arith, delay-is job x k passes, delay-is job y k passes) in
-          (ap (λ n. sizingIn n x) (net-is job x k passes) ∙ sym (chosen-first job x y number-0 g), rw (number-0, le-leb _ _ g))
+          (number-0, le-leb _ _ g, places-is, number-ranges (netBy c job) x ex .long)
 
-      pub choose-second : dy < dx → (sizingIn (netBy c job) y ≡ chosen job x y) × (fromSecond job x y ≡ true)
-      unfolding fromSecond firstChosen
-      choose-second h =
+      pub prefer-second : dy < dx → Preferred job x y (Second (places (netBy c job)))
+      unfolding firstChosen
+      prefer-second h =
           let g : delay (netOf job) (sizingIn (netOf job) y) < delay (netOf job) (sizingIn (netOf job) x) = omega (arith, delay-is job x k passes, delay-is job y k passes) in
-          (ap (λ n. sizingIn n y) (net-is job x k passes) ∙ sym (chosen-second job x y number-0 g), rw (number-0, lt-leb _ _ g))
+          (number-0, lt-leb _ _ g, places-is, number-ranges (netBy c job) y ey .long)

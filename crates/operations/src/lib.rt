@@ -15,7 +15,7 @@ ghost use Rattle.net.specs.Checked.{Checked};
 ghost use Rattle.net.specs.Answers.{measured, refined, chosen};
 ghost use Rattle.links.specs.Links.{Linked};
 ghost use Rattle.refine.specs.Sides.{sideOf};
-ghost use Rattle.operations.specs.Outcomes.{measuredBy, refinedBy, measureRefused, refineRefused, fromSecond};
+ghost use Rattle.operations.specs.Outcomes.{measuredBy, refinedBy, measureRefused, refineRefused, Preferred, fromSecond};
 
 // What measure answers: the figures of the sizing, or the number of the first question that fails.
 pub enum Measurement {
@@ -27,6 +27,13 @@ pub enum Measurement {
 pub enum Refinement {
     Index(u8),
     Refused(usize),
+}
+
+// Which of two sizings choose hands back, and how many bytes of it.
+pub enum Preference {
+    First(usize),
+    Second(usize),
+    Neither,
 }
 
 // The scaled delay and the load figure of a sizing.
@@ -105,30 +112,41 @@ pub fn refine(job: &[u8], sizing: &[u8], place: usize, side: Side) -> Refinement
     ))
 }
 
+// The one of two sizings that has the smaller delay, at a tie the first, and its P.
+pub fn prefer(job: &[u8], x: &[u8], y: &[u8]) -> Preference
+    ensures { λ r. ⌜ Preferred (now (job .entry)) (now (x .entry)) (now (y .entry)) r ⌝ }
+{
+    let mut first = [0usize; 65];
+    let mut next = [0usize; 64];
+    let checked = questions::check(job, &mut first, &mut next);
+    if checked.number != 0 {
+        return Preference::Neither;
+    }
+    let counts = checked.counts;
+    if allowed::sizing_number(job, counts, x) != 0 {
+        return Preference::Neither;
+    }
+    if allowed::sizing_number(job, counts, y) != 0 {
+        return Preference::Neither;
+    }
+    let places = counts.stages + counts.segments;
+    let of_x = elmore::delay(job, counts, &first, &next, x);
+    let of_y = elmore::delay(job, counts, &first, &next, y);
+    if of_x.0 <= of_y.0 {
+        return Preference::First(places);
+    }
+    Preference::Second(places)
+}
+
 // The first P bytes of the one of two sizings that has the smaller delay, as a part of the caller's own slice; at a tie of the first.
 pub fn choose<'a>(job: &[u8], x: &'a [u8], y: &'a [u8]) -> &'a [u8]
     ensures answer { λ r. ⌜ now r ≡ chosen (now (job .entry)) (now (x .entry)) (now (y .entry)) ⌝ }
     ensures second { λ r. ⌜ (fromSecond (now (job .entry)) (now (x .entry)) (now (y .entry)) ≡ true → r .ptr ≡ y .entry .ptr) ⌝ }
     ensures first { λ r. ⌜ (fromSecond (now (job .entry)) (now (x .entry)) (now (y .entry)) ≡ false → r .ptr ≡ x .entry .ptr) ⌝ }
 {
-    let mut first = [0usize; 65];
-    let mut next = [0usize; 64];
-    let checked = questions::check(job, &mut first, &mut next);
-    if checked.number != 0 {
-        return &x[..0];
+    match prefer(job, x, y) {
+        Preference::First(places) => &x[..places],
+        Preference::Second(places) => &y[..places],
+        Preference::Neither => &x[..0],
     }
-    let counts = checked.counts;
-    if allowed::sizing_number(job, counts, x) != 0 {
-        return &x[..0];
-    }
-    if allowed::sizing_number(job, counts, y) != 0 {
-        return &x[..0];
-    }
-    let places = counts.stages + counts.segments;
-    let of_x = elmore::delay(job, counts, &first, &next, x);
-    let of_y = elmore::delay(job, counts, &first, &next, y);
-    if of_x.0 <= of_y.0 {
-        return &x[..places];
-    }
-    &y[..places]
 }

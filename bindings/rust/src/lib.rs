@@ -1,0 +1,218 @@
+//! Numlejka sizes the drivers and wires of a clock net for the least weighted Elmore delay.
+//!
+//! A job is a slice of records of 16 bytes, a sizing one index for each place: `docs/format.md` of the repository has
+//! the formats. Every function is total: it answers, or tells the question that the job or the sizing fails.
+//!
+//! ```
+//! use numlejka::{measure, size, Reply};
+//!
+//! // Two widths, one driver size, one stage, and a segment of length 1 with a sink of capacitance 5 and weight 1.
+//! let job = [
+//!     1, 0, 0, 0, 4, 0, 0, 0, 2, 0, 0, 0, 0, 0, 0, 0,
+//!     1, 1, 0, 0, 2, 0, 0, 0, 3, 0, 0, 0, 0, 0, 0, 0,
+//!     2, 0, 0, 0, 10, 0, 0, 0, 3, 0, 0, 0, 1, 0, 0, 0,
+//!     3, 0, 0, 0, 0, 0, 0, 0, 0, 0, 0, 0, 0, 0, 0, 0,
+//!     4, 0, 0, 1, 1, 0, 0, 0, 5, 0, 0, 0, 1, 0, 1, 0,
+//! ];
+//! assert_eq!(measure(&job, &[0, 0]).unwrap().delay, 208);
+//! let Reply::Finished { delay, places } = size(&job) else { panic!() };
+//! assert_eq!(delay, 206);
+//! assert_eq!(places[1].lean, 1);
+//! assert_eq!(measure(&job, &[0]).unwrap_err().number, 15);
+//! ```
+
+mod c;
+
+use std::fmt;
+
+/// The scaled delay and the load figure of a sizing.
+#[derive(Clone, Copy, Debug, PartialEq, Eq)]
+pub struct Figures {
+    pub delay: u64,
+    pub load: u64,
+}
+
+/// The end of a tie that [`refine`] answers: from below the smallest best index, from above the largest.
+#[derive(Clone, Copy, Debug, PartialEq, Eq)]
+pub enum Side {
+    Below,
+    Above,
+}
+
+/// The number of the first question whose answer is no.
+#[derive(Clone, Copy, Debug, PartialEq, Eq)]
+pub struct Refusal {
+    pub number: usize,
+}
+
+/// What is known of one place of a job: its bounds, and its index in lean and in wide.
+#[derive(Clone, Copy, Debug, PartialEq, Eq)]
+pub struct Place {
+    pub lower: u8,
+    pub upper: u8,
+    pub lean: u8,
+    pub wide: u8,
+}
+
+/// The bounds of one place.
+#[derive(Clone, Copy, Debug, PartialEq, Eq)]
+pub struct Bounds {
+    pub lower: u8,
+    pub upper: u8,
+}
+
+/// What [`size`] answers; places stand stages first.
+#[derive(Clone, Debug, PartialEq, Eq)]
+pub enum Reply {
+    /// The least scaled delay, and each place.
+    Finished { delay: u64, places: Vec<Place> },
+    /// More than 65,536 sizings lie between the bounds: question 14.
+    BoundsOnly(Vec<Bounds>),
+    /// Any other question fails.
+    Refused(Refusal),
+}
+
+/// The questions, from 1 on.
+const QUESTIONS: [&str; 17] = [
+    "Is the length above 0 and a multiple of 16?",
+    "Is every kind 1 to 4, and does the kind never fall from one record to the next?",
+    "Are there 1 to 8 widths, 1 to 16 sizes, 1 to 4 stages, 1 to 64 segments?",
+    "Do the numbers count from 0 in each kind?",
+    "Are all unnamed bytes zero, and the sink capacitance and weight of every segment whose sink byte is 0?",
+    "Are the values of kinds 1 and 2 in range?",
+    "Does resistance strictly fall, and does width capacitance, or gate capacitance, strictly rise, along each table?",
+    "Is every stage's lowest at most its highest, which is below the count of sizes, and are both equal for stage 0?",
+    "Is each parent byte at most the segment's own number?",
+    "Are the segments' fields in range, capacitance and weight 0 where there is no sink, and lowest at most highest, which is below the count of widths?",
+    "Has every segment without branches a sink?",
+    "Does the reply buffer hold 8 * (1 + P) bytes?",
+    "Is the lower bound at most the upper at each place?",
+    "Is room at most 65,536?",
+    "Is each sizing at least P bytes long?",
+    "Is each index in its place's range?",
+    "Is the place below P?",
+];
+
+impl Refusal {
+    /// The question whose answer is no.
+    pub fn question(self) -> &'static str {
+        self.number
+            .checked_sub(1)
+            .and_then(|i| QUESTIONS.get(i))
+            .copied()
+            .unwrap_or("a question of a later version")
+    }
+}
+
+impl fmt::Display for Refusal {
+    fn fmt(&self, f: &mut fmt::Formatter<'_>) -> fmt::Result {
+        write!(f, "refused {}: {}", self.number, self.question())
+    }
+}
+
+impl std::error::Error for Refusal {}
+
+/// The answer with the number 0, the refusal with any other.
+fn answered<T>(number: usize, answer: T) -> Result<T, Refusal> {
+    if number == 0 {
+        Ok(answer)
+    } else {
+        Err(Refusal { number })
+    }
+}
+
+/// P of a job that passes its questions: its stages and its segments.
+fn places_of(job: &[u8]) -> usize {
+    job.chunks(16).filter(|record| record[0] >= 3).count()
+}
+
+/// The scaled delay and the load figure of a sizing.
+pub fn measure(job: &[u8], sizing: &[u8]) -> Result<Figures, Refusal> {
+    let mut figures = Figures { delay: 0, load: 0 };
+    // SAFETY: each pointer has the length of its slice beside it, and the figures are this function's own.
+    let number = unsafe {
+        c::numlejka_measure(
+            job.as_ptr(),
+            job.len(),
+            sizing.as_ptr(),
+            sizing.len(),
+            &mut figures.delay,
+            &mut figures.load,
+        )
+    };
+    answered(number, figures)
+}
+
+/// The best index at a place, the rest of the sizing held.
+pub fn refine(job: &[u8], sizing: &[u8], place: usize, side: Side) -> Result<u8, Refusal> {
+    let mut best = 0;
+    // SAFETY: each pointer has the length of its slice beside it, and the index is this function's own.
+    let number = unsafe {
+        c::numlejka_refine(
+            job.as_ptr(),
+            job.len(),
+            sizing.as_ptr(),
+            sizing.len(),
+            place,
+            (side == Side::Above) as u8,
+            &mut best,
+        )
+    };
+    answered(number, best)
+}
+
+/// The first P bytes of the one of two sizings that has the smaller delay, at a tie of the first; `None` where the job
+/// or a sizing is refused, and then [`measure`] of each sizing tells why.
+pub fn choose<'a>(job: &[u8], x: &'a [u8], y: &'a [u8]) -> Option<&'a [u8]> {
+    // SAFETY: each pointer has the length of its slice beside it, and nothing is written.
+    let choice = unsafe {
+        c::numlejka_choose(
+            job.as_ptr(),
+            job.len(),
+            x.as_ptr(),
+            x.len(),
+            y.as_ptr(),
+            y.len(),
+        )
+    };
+    match choice {
+        1 => Some(&x[..places_of(job)]),
+        2 => Some(&y[..places_of(job)]),
+        _ => None,
+    }
+}
+
+/// The least delay of a job, with the bounds, lean and wide at each place.
+pub fn size(job: &[u8]) -> Reply {
+    let mut reply = [0; 8 * (1 + 68)];
+    // SAFETY: each pointer has the length of its slice beside it, and the buffer is this function's own.
+    let number =
+        unsafe { c::numlejka_size(job.as_ptr(), job.len(), reply.as_mut_ptr(), reply.len()) };
+    let (delay, records) = reply.split_at(8);
+    let records = records.chunks(8).take(places_of(job));
+    match number {
+        0 => Reply::Finished {
+            delay: u64::from_le_bytes(delay.try_into().expect("eight bytes")),
+            places: records
+                .map(|r| Place {
+                    lower: r[0],
+                    upper: r[1],
+                    lean: r[2],
+                    wide: r[3],
+                })
+                .collect(),
+        },
+        14 => Reply::BoundsOnly(
+            records
+                .map(|r| Bounds {
+                    lower: r[0],
+                    upper: r[1],
+                })
+                .collect(),
+        ),
+        _ => Reply::Refused(Refusal { number }),
+    }
+}
+
+#[cfg(test)]
+mod tests;

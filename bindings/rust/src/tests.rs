@@ -1,0 +1,220 @@
+//! The worked jobs J1 to J5, and each way of refusing.
+use super::*;
+
+type Record = [u8; 16];
+
+/// A record with three words behind its first four bytes.
+fn record(head: [u8; 4], words: [u32; 3]) -> Record {
+    let mut r = [0; 16];
+    r[..4].copy_from_slice(&head);
+    for (at, word) in words.iter().enumerate() {
+        r[4 + 4 * at..8 + 4 * at].copy_from_slice(&word.to_le_bytes());
+    }
+    r
+}
+
+/// Width i, of a resistance and a capacitance.
+fn width(i: u8, resistance: u32, capacitance: u32) -> Record {
+    record([1, i, 0, 0], [resistance, capacitance, 0])
+}
+
+/// Driver size i, of a resistance, a gate and an output capacitance.
+fn driver(i: u8, resistance: u32, gate: u32, output: u32) -> Record {
+    record([2, i, 0, 0], [resistance, gate, output])
+}
+
+/// Stage i, with its lowest and highest size.
+fn stage(i: u8, lowest: u8, highest: u8) -> Record {
+    record([3, i, lowest, highest], [0, 0, 0])
+}
+
+/// Segment i with a sink: its parent byte, length, sink capacitance and weight, and its highest width.
+fn segment(i: u8, parent: u8, length: u32, sink: u32, weight: u8, highest: u8) -> Record {
+    record(
+        [4, i, parent, 1],
+        [length, sink, u32::from_le_bytes([weight, 0, highest, 0])],
+    )
+}
+
+/// The bytes of a job.
+fn job(records: &[Record]) -> Vec<u8> {
+    records.concat()
+}
+
+fn with_one_segment(resistance: u32, sink: u32, weight: u8) -> Vec<u8> {
+    job(&[
+        width(0, 4, 2),
+        width(1, 2, 3),
+        driver(0, resistance, 3, 1),
+        stage(0, 0, 0),
+        segment(0, 0, 1, sink, weight, 1),
+    ])
+}
+
+fn j1() -> Vec<u8> {
+    with_one_segment(10, 5, 1)
+}
+
+fn j2() -> Vec<u8> {
+    with_one_segment(9, 4, 1)
+}
+
+fn j3() -> Vec<u8> {
+    with_one_segment(10, 5, 0)
+}
+
+fn j4() -> Vec<u8> {
+    job(&[
+        width(0, 4, 2),
+        width(1, 2, 3),
+        driver(0, 10, 3, 1),
+        driver(1, 5, 7, 1),
+        stage(0, 0, 0),
+        stage(1, 0, 1),
+        segment(0, 0, 1, 4, 1, 1),
+    ])
+}
+
+fn j5() -> Vec<u8> {
+    job(&[
+        width(0, 1, 1),
+        driver(0, 1, 1, 0),
+        stage(0, 0, 0),
+        record([4, 0, 0, 0], [1, 0, 0]),
+        segment(1, 1, 2, 1, 1, 0),
+        segment(2, 1, 3, 2, 2, 0),
+    ])
+}
+
+/// One stage of one size and n segments at the source, each of four widths and weight 0.
+fn flat(n: u8) -> Vec<u8> {
+    let mut records = vec![
+        width(0, 4, 1),
+        width(1, 3, 2),
+        width(2, 2, 3),
+        width(3, 1, 4),
+    ];
+    records.extend([driver(0, 1, 1, 0), stage(0, 0, 0)]);
+    records.extend((0..n).map(|i| segment(i, 0, 1, 1, 0, 3)));
+    job(&records)
+}
+
+fn delay(job: &[u8], sizing: &[u8]) -> u64 {
+    measure(job, sizing).unwrap().delay
+}
+
+/// The least delay, lean and wide of a job that is finished.
+fn finished(job: &[u8]) -> (u64, Vec<u8>, Vec<u8>) {
+    match size(job) {
+        Reply::Finished { delay, places } => (
+            delay,
+            places.iter().map(|p| p.lean).collect(),
+            places.iter().map(|p| p.wide).collect(),
+        ),
+        other => panic!("{other:?}"),
+    }
+}
+
+#[test]
+fn delays() {
+    assert_eq!((delay(&j1(), &[0, 0]), delay(&j1(), &[0, 1])), (208, 206));
+    assert_eq!((delay(&j2(), &[0, 0]), delay(&j2(), &[0, 1])), (166, 166));
+    assert_eq!((delay(&j3(), &[0, 0]), delay(&j3(), &[0, 1])), (0, 0));
+    assert_eq!(
+        (delay(&j4(), &[0, 0, 0]), delay(&j4(), &[0, 0, 1])),
+        (260, 262)
+    );
+    assert_eq!(
+        (delay(&j4(), &[0, 1, 0]), delay(&j4(), &[0, 1, 1])),
+        (270, 262)
+    );
+    assert_eq!(delay(&j5(), &[0, 0, 0, 0]), 155);
+}
+
+#[test]
+fn load() {
+    assert_eq!(
+        measure(&j4(), &[0, 0, 0]),
+        Ok(Figures {
+            delay: 260,
+            load: 9
+        })
+    );
+}
+
+#[test]
+fn later_bytes_are_not_read() {
+    assert_eq!(delay(&j1(), &[0, 1, 255]), 206);
+}
+
+#[test]
+fn best_index_from_both_sides() {
+    assert_eq!(refine(&j4(), &[0, 0, 1], 1, Side::Below), Ok(0));
+    assert_eq!(refine(&j4(), &[0, 0, 1], 1, Side::Above), Ok(1));
+}
+
+#[test]
+fn chosen_part_is_the_callers_own() {
+    let (x, y) = ([0, 0, 7], [0, 1]);
+    assert!(std::ptr::eq(choose(&j1(), &x, &y).unwrap(), &y[..]));
+    assert!(std::ptr::eq(choose(&j2(), &x, &y).unwrap(), &x[..2]));
+    assert_eq!(choose(&j1(), &x, &[0]), None);
+    assert_eq!(choose(&[], &x, &y), None);
+}
+
+#[test]
+fn sizes() {
+    assert_eq!(finished(&j1()), (206, vec![0, 1], vec![0, 1]));
+    assert_eq!(finished(&j2()), (166, vec![0, 0], vec![0, 1]));
+    assert_eq!(finished(&j3()), (0, vec![0, 0], vec![0, 1]));
+    assert_eq!(finished(&j4()), (260, vec![0, 0, 0], vec![0, 0, 0]));
+    assert_eq!(finished(&j5()), (155, vec![0; 4], vec![0; 4]));
+}
+
+#[test]
+fn bounds_of_j4() {
+    let Reply::Finished { places, .. } = size(&j4()) else {
+        panic!()
+    };
+    let bounds: Vec<_> = places.iter().map(|p| (p.lower, p.upper)).collect();
+    assert_eq!(bounds, [(0, 0), (0, 1), (0, 1)]);
+}
+
+#[test]
+fn room() {
+    let (least, lean, wide) = finished(&flat(8));
+    assert_eq!((least, lean), (0, vec![0; 9]));
+    assert_eq!(wide, [0, 3, 3, 3, 3, 3, 3, 3, 3]);
+    let mut bounds = vec![Bounds { lower: 0, upper: 3 }; 10];
+    bounds[0].upper = 0;
+    assert_eq!(size(&flat(9)), Reply::BoundsOnly(bounds));
+}
+
+#[test]
+fn refusals() {
+    let refused = |number| Reply::Refused(Refusal { number });
+    assert_eq!(size(&[]), refused(1));
+    assert_eq!(size(&[1; 17]), refused(1));
+    assert_eq!(size(&[0; 16]), refused(2));
+    let mut bad = j1();
+    bad[4] = 2;
+    assert_eq!(size(&bad), refused(7));
+    bad[3] = 1;
+    bad[4] = 0;
+    assert_eq!(size(&bad), refused(5));
+    assert_eq!(measure(&j1(), &[0]).unwrap_err().number, 15);
+    assert_eq!(measure(&j1(), &[0, 2]).unwrap_err().number, 16);
+    assert_eq!(
+        refine(&j1(), &[0, 0], 2, Side::Below).unwrap_err().number,
+        17
+    );
+}
+
+#[test]
+fn a_refusal_tells_its_question() {
+    let refusal = measure(&[], &[]).unwrap_err();
+    assert_eq!(
+        refusal.to_string(),
+        "refused 1: Is the length above 0 and a multiple of 16?"
+    );
+}

@@ -1,0 +1,13 @@
+-- `numlejka::side_of` meets its contract: 0 is below, every other byte above.
+use borrow.Author.Tests.{eq-eqb, ne-eqb}
+use Rattle.numlejka.proofs.side_of.Statement.{statement}
+use Rattle.numlejka.proofs.side_of.Tie as tie
+
+returns : tie.Need-returns
+returns c = rw (eq-eqb (c .before .args .above) 0 (c .if1 .taken))
+
+returns-2 : tie.Need-returns-2
+returns-2 c = rw (ne-eqb (c .before .args .above) 0 (c .if1 .left))
+
+pub side-of-spec : {M : Type 1} → statement M
+side-of-spec = tie.close (tie.spec returns returns-2)

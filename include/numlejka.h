@@ -1,0 +1,97 @@
+/*
+ * Numlejka: least-delay sizing of a driven routing tree.
+ *
+ * A job is a byte buffer of records of 16 bytes; a place is a stage or a segment of the job, and P is the number of
+ * its places; a sizing is P bytes, one index for each place. docs/format.md has the formats of jobs and replies.
+ *
+ * Numbers. Each function but numlejka_choose returns 0 where it has answered, and otherwise the number of the first
+ * question whose answer is no:
+ *
+ *   number  question                                                                                  asked by
+ *      0    (answered)
+ *      1    Is the length above 0 and a multiple of 16?                                               all
+ *      2    Is every kind 1 to 4, and does the kind never fall from one record to the next?           all
+ *      3    Are there 1 to 8 widths, 1 to 16 sizes, 1 to 4 stages, 1 to 64 segments?                  all
+ *      4    Do the numbers count from 0 in each kind?                                                 all
+ *      5    Are all unnamed bytes zero, and the capacitance and weight of each segment without sink?  all
+ *      6    Are the values of widths and sizes in range?                                              all
+ *      7    Does resistance strictly fall, and capacitance strictly rise, along each table?           all
+ *      8    Is every stage's lowest at most its highest, which is below the count of sizes, and
+ *           are both equal for stage 0?                                                               all
+ *      9    Is each parent byte at most the segment's own number?                                     all
+ *     10    Are the segments' fields in range?                                                        all
+ *     11    Has every segment without branches a sink?                                                all
+ *     12    Does the reply buffer hold 8 * (1 + P) bytes?                                             size
+ *     13    Is the lower bound at most the upper at each place? (It always is.)                       size
+ *     14    Is room at most 65,536?                                                                   size
+ *     15    Is each sizing at least P bytes long? Later bytes are not read.                           measure, refine, choose
+ *     16    Is each index in its place's range?                                                       measure, refine, choose
+ *     17    Is the place below P?                                                                     refine
+ *
+ * Buffers. A buffer is a pointer to its first byte and its length in bytes. The pointer of a buffer of length 0 may be
+ * null: nothing is read or written through it. Every other pointer points to as many bytes as its length says, and a
+ * pointer without a length to one value; none of these may be null. What a function writes to (delay, load, best,
+ * reply) overlaps no other argument of the call. Buffers that are only read may overlap each other.
+ *
+ * Refusals. A call that returns a number other than 0 leaves all memory of the caller as it was. The one exception is
+ * numlejka_size with 14, which writes a reply of bounds.
+ *
+ * Threads. The library keeps no state and allocates nothing. Any number of calls may run at the same time, as long as
+ * nothing writes to a buffer that a running call reads, and nothing uses a buffer that a running call writes to.
+ *
+ * Link with libnumlejka.a and the C library; nothing else is needed.
+ */
+#ifndef NUMLEJKA_H
+#define NUMLEJKA_H
+
+#include <stddef.h>
+#include <stdint.h>
+
+#ifdef __cplusplus
+extern "C" {
+#endif
+
+/* A reply buffer of this length holds the reply of every job: 8 * (1 + 68) bytes. */
+#define NUMLEJKA_REPLY_LENGTH 552
+
+/*
+ * Measures a sizing. Returns the number; with 0 the scaled delay of the sizing is in *delay and its load figure in
+ * *load, with every other number both are as they were.
+ */
+size_t numlejka_measure(const uint8_t *job, size_t job_length,
+                        const uint8_t *sizing, size_t sizing_length,
+                        uint64_t *delay, uint64_t *load);
+
+/*
+ * Finds the best index at one place, the rest of the sizing held: the index that gives the smallest delay, and of
+ * several such the smallest where above is 0, the largest where above is any other value. Returns the number; with 0
+ * the index is in *best, with every other number *best is as it was.
+ */
+size_t numlejka_refine(const uint8_t *job, size_t job_length,
+                       const uint8_t *sizing, size_t sizing_length,
+                       size_t place, uint8_t above, uint8_t *best);
+
+/*
+ * Tells which of two sizings has the smaller delay. Returns 1 for x, also at a tie, 2 for y, and 0 where the job or
+ * one of the sizings is refused; numlejka_measure of each sizing then tells the number. The chosen sizing is the first
+ * P bytes of its buffer.
+ */
+size_t numlejka_choose(const uint8_t *job, size_t job_length,
+                       const uint8_t *x, size_t x_length,
+                       const uint8_t *y, size_t y_length);
+
+/*
+ * Sizes a job. Returns the number. With 0 the first 8 * (1 + P) bytes of the buffer are the reply: eight bytes with
+ * the least scaled delay, the lowest byte first, then for each place, stages first, the eight bytes
+ * lower bound, upper bound, lean, wide, 0, 0, 0, 0. With 14 the reply has the bounds, and the delay's eight bytes,
+ * lean and wide are all 255. The bytes behind the reply are as they were. With every other number the whole buffer is
+ * as it was.
+ */
+size_t numlejka_size(const uint8_t *job, size_t job_length,
+                     uint8_t *reply, size_t reply_length);
+
+#ifdef __cplusplus
+}
+#endif
+
+#endif
