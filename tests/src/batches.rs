@@ -38,7 +38,7 @@ pub fn count(counts: &mut Counts, calls: &[Call]) {
 
 /// A measure of a job with a sizing made for a plan.
 fn a_measure(random: &mut Random, job: &[u8], plan: &Plan) -> Call {
-    let figures = marked(random.pick(&[16, 16, 16, 24, 17, 15, 8, 0]));
+    let figures = marked(random.pick(&[16, 16, 16, 24, 17, 18, 31, 32]));
     Call::Measure {
         job: job.to_vec(),
         sizing: any_sizing(random, plan),
@@ -48,7 +48,7 @@ fn a_measure(random: &mut Random, job: &[u8], plan: &Plan) -> Call {
 
 /// A refine of a job with a sizing made for a plan.
 fn a_refine(random: &mut Random, job: &[u8], plan: &Plan) -> Call {
-    let index = marked(random.pick(&[1, 1, 1, 2, 9, 0]));
+    let index = marked(random.pick(&[1, 1, 1, 2, 9, 3]));
     let sizing = any_sizing(random, plan);
     Call::Refine {
         job: job.to_vec(),
@@ -128,7 +128,7 @@ pub fn large_calls(random: &mut Random) -> Vec<Call> {
     calls.push(a_roomy_size(&job));
     for place in 0..plan.places() {
         let sizing = allowed_sizing(random, &plan);
-        let side = (place % 2) as u32;
+        let side = (place % 2) as u8;
         calls.push(Call::Refine {
             job: job.clone(),
             sizing,

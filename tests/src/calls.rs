@@ -3,7 +3,7 @@
 use crate::reference::{Choice, Side, choose, chosen, measure, refine, size};
 use crate::reference_bounds::way_for;
 
-/// A call with all its arguments; `figures`, `index` and `reply` are the buffers lent for the answer.
+/// A call with all its arguments; `figures`, `index` and `reply` hold what was there before the answer.
 #[derive(Clone, PartialEq, Eq, Debug)]
 pub enum Call {
     Measure {
@@ -15,7 +15,7 @@ pub enum Call {
         job: Vec<u8>,
         sizing: Vec<u8>,
         place: usize,
-        side: u32,
+        side: u8,
         index: Vec<u8>,
     },
     Choose {
@@ -37,7 +37,7 @@ pub struct Outcome {
 }
 
 /// The side that a number of the interface means.
-pub fn side_of(side: u32) -> Side {
+pub fn side_of(side: u8) -> Side {
     if side == 0 { Side::Below } else { Side::Above }
 }
 
@@ -50,10 +50,10 @@ pub fn number_of(choice: Choice) -> u64 {
     }
 }
 
-/// Overwrites the start of a buffer with an answer, if it is given and fits.
+/// Overwrites the start of a buffer with an answer, if it is given.
 fn overwritten(buffer: &[u8], number: u64, answer: &[u8]) -> Vec<u8> {
     let mut after = buffer.to_vec();
-    if number == 0 && buffer.len() >= answer.len() {
+    if number == 0 {
         after[..answer.len()].copy_from_slice(answer);
     }
     after
@@ -182,8 +182,7 @@ impl Call {
                 ..
             } => {
                 let place = u8::try_from(*place).expect("a place of one byte");
-                let side = u8::try_from(*side).expect("a side of one byte");
-                [&[2][..], &slice(job), &slice(sizing), &[place, side]].concat()
+                [&[2][..], &slice(job), &slice(sizing), &[place, *side]].concat()
             }
             Call::Choose { job, x, y } => [&[3][..], &slice(job), &slice(x), &slice(y)].concat(),
             Call::Size { job, reply } => [&[4][..], &slice(job), &slice(reply)].concat(),

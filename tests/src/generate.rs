@@ -397,8 +397,8 @@ pub fn any_place(random: &mut Random, places: usize) -> usize {
 }
 
 /// A side as the interface takes it: 0 is below, all else above.
-pub fn any_side(random: &mut Random) -> u32 {
-    random.pick(&[0, 0, 0, 1, 1, 2, 256, u32::MAX])
+pub fn any_side(random: &mut Random) -> u8 {
+    random.pick(&[0, 0, 0, 1, 1, 2, 128, 255])
 }
 
 /// A reply buffer: exact, one byte short, empty, too short, or longer.

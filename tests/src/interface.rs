@@ -2,72 +2,76 @@
 
 use crate::calls::{Call, Outcome};
 
-// The one place where the C interface is declared.
+// The one place where the tests declare the C interface.
 unsafe extern "C" {
     fn numlejka_measure(
         job: *const u8,
         job_len: usize,
         sizing: *const u8,
         sizing_len: usize,
-        figures: *mut u8,
-        figures_len: usize,
-    ) -> u64;
+        delay: *mut u64,
+        load: *mut u64,
+    ) -> usize;
     fn numlejka_refine(
         job: *const u8,
         job_len: usize,
         sizing: *const u8,
         sizing_len: usize,
         place: usize,
-        side: u32,
-        index: *mut u8,
-        index_len: usize,
-    ) -> u64;
-    fn numlejka_choose(job: *const u8, job_len: usize, x: *const u8, x_len: usize, y: *const u8, y_len: usize) -> u64;
-    fn numlejka_size(job: *const u8, job_len: usize, reply: *mut u8, reply_len: usize) -> u64;
+        above: u8,
+        best: *mut u8,
+    ) -> usize;
+    fn numlejka_choose(job: *const u8, job_len: usize, x: *const u8, x_len: usize, y: *const u8, y_len: usize)
+    -> usize;
+    fn numlejka_size(job: *const u8, job_len: usize, reply: *mut u8, reply_len: usize) -> usize;
 }
 
-/// Measures a sizing; delay and load go into the first sixteen bytes of `figures`.
+/// What the parameters hold before a call, so that a refusal that writes is seen.
+const DELAY_BEFORE: u64 = 0x0123_4567_89ab_cdef;
+const LOAD_BEFORE: u64 = 0xfedc_ba98_7654_3210;
+const BEST_BEFORE: u8 = 0xa5;
+
+/// Measures a sizing; with the number 0, delay and load go into the first sixteen bytes of `figures`.
 pub fn measure(job: &[u8], sizing: &[u8], figures: &mut [u8]) -> u64 {
-    // SAFETY: every pointer comes with the length of the slice that it points to.
-    unsafe {
-        numlejka_measure(
-            job.as_ptr(),
-            job.len(),
-            sizing.as_ptr(),
-            sizing.len(),
-            figures.as_mut_ptr(),
-            figures.len(),
-        )
+    let (mut delay, mut load) = (DELAY_BEFORE, LOAD_BEFORE);
+    // SAFETY: every slice's pointer comes with its length, and the two figures are this function's own.
+    let number = unsafe {
+        numlejka_measure(job.as_ptr(), job.len(), sizing.as_ptr(), sizing.len(), &mut delay, &mut load)
+    };
+    if number == 0 {
+        figures[..8].copy_from_slice(&delay.to_le_bytes());
+        figures[8..16].copy_from_slice(&load.to_le_bytes());
+    } else {
+        assert_eq!((delay, load), (DELAY_BEFORE, LOAD_BEFORE), "a refusal wrote a figure");
     }
+    number as u64
 }
 
-/// Refines a sizing at a place; the best index goes into the first byte of `index`.
-pub fn refine(job: &[u8], sizing: &[u8], place: usize, side: u32, index: &mut [u8]) -> u64 {
-    // SAFETY: every pointer comes with the length of the slice that it points to.
-    unsafe {
-        numlejka_refine(
-            job.as_ptr(),
-            job.len(),
-            sizing.as_ptr(),
-            sizing.len(),
-            place,
-            side,
-            index.as_mut_ptr(),
-            index.len(),
-        )
+/// Refines a sizing at a place; with the number 0, the best index goes into the first byte of `index`.
+pub fn refine(job: &[u8], sizing: &[u8], place: usize, side: u8, index: &mut [u8]) -> u64 {
+    let mut best = BEST_BEFORE;
+    // SAFETY: every slice's pointer comes with its length, and the index is this function's own.
+    let number = unsafe {
+        numlejka_refine(job.as_ptr(), job.len(), sizing.as_ptr(), sizing.len(), place, side, &mut best)
+    };
+    if number == 0 {
+        index[0] = best;
+    } else {
+        assert_eq!(best, BEST_BEFORE, "a refusal wrote an index");
     }
+    number as u64
 }
 
 /// Chooses between two sizings: 0 for none, 1 for the first, 2 for the second.
 pub fn choose(job: &[u8], x: &[u8], y: &[u8]) -> u64 {
     // SAFETY: every pointer comes with the length of the slice that it points to.
-    unsafe { numlejka_choose(job.as_ptr(), job.len(), x.as_ptr(), x.len(), y.as_ptr(), y.len()) }
+    unsafe { numlejka_choose(job.as_ptr(), job.len(), x.as_ptr(), x.len(), y.as_ptr(), y.len()) as u64 }
 }
 
 /// Sizes a job; the reply goes to the start of `reply`.
 pub fn size(job: &[u8], reply: &mut [u8]) -> u64 {
     // SAFETY: every pointer comes with the length of the slice that it points to.
-    unsafe { numlejka_size(job.as_ptr(), job.len(), reply.as_mut_ptr(), reply.len()) }
+    unsafe { numlejka_size(job.as_ptr(), job.len(), reply.as_mut_ptr(), reply.len()) as u64 }
 }
 
 /// Runs a call and gives its number and the lent buffer after it.
