@@ -2,9 +2,9 @@
 use mathlib.Core.Path.{_≡_, refl}
 use mathlib.Core.Bool.{Bool, true, false, cond}
 use mathlib.Core.List.{List, [], _∷_, _++_}
-use Prim.Native.Nat.{ℕ, _≤_, _<_}
+use Prim.Native.Nat.{ℕ, _≤_}
 use native.Mathlib.Omega.{arith}
-use borrow.Author.Tests.{ne-eqb, le-leb, lt-leb}
+use borrow.Author.Tests.{ne-eqb}
 use lib.Dec.{lit≤}
 use Rattle.lattice.specs.Side.{Side}
 use Rattle.lattice.specs.Refine.{best}
@@ -12,7 +12,7 @@ use Rattle.net.specs.Net.{netOf}
 use Rattle.net.specs.Delay.{delay, loadFigure}
 use Rattle.net.specs.Sizings.{allowed}
 use Rattle.net.specs.Questions.{Question, ask, firstNo, jobQuestions, refusal}
-use Rattle.net.specs.Answers.{question15, question16, sizingIn, measureNumber, measured, refineNumber, refined, chooseNumber, firstChosen, chosen}
+use Rattle.net.specs.Answers.{question15, question16, sizingIn, measureNumber, measured, refineNumber, refined, chooseNumber, chosen}
 
 -- every question has a number above 0
 unfoldable pub Numbered : List Question → Type 0
@@ -89,13 +89,3 @@ module _ (job x y : List ℕ) where
   pub chosen-refused : (chooseNumber job x y ≡ 0 → ⊥) → chosen job x y ≡ []
   unfolding chosen
   chosen-refused z = rw (ne-eqb (chooseNumber job x y) 0 z)
-
-  pub chosen-first : chooseNumber job x y ≡ 0 → delay (netOf job) (sizingIn (netOf job) x) ≤ delay (netOf job) (sizingIn (netOf job) y)
-      → chosen job x y ≡ sizingIn (netOf job) x
-  unfolding chosen firstChosen
-  chosen-first e h = rw (e, le-leb _ _ h)
-
-  pub chosen-second : chooseNumber job x y ≡ 0 → delay (netOf job) (sizingIn (netOf job) y) < delay (netOf job) (sizingIn (netOf job) x)
-      → chosen job x y ≡ sizingIn (netOf job) y
-  unfolding chosen firstChosen
-  chosen-second e h = rw (e, lt-leb _ _ h)

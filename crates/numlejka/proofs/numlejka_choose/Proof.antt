@@ -20,18 +20,21 @@ enum-told-3 c = search needs
 
 returns : tie.Need-returns
 returns c =
+    let b = c .before .before .before .before .before .before in
     let g = c .enum-told .given in
-    choose-first (c .before .before .before .before .before .before .args .job .now) (c .before .before .before .before .before .before .args .x .now) (c .before .before .before .before .before .before .args .y .now) (g .0 .0) (subst (Preferred (c .before .before .before .before .before .before .args .job .now) (c .before .before .before .before .before .before .args .x .now) (c .before .before .before .before .before .before .args .y .now)) (g .1) (c .before .before .prefer .ensures))
+    choose-first (b .args .job .now) (b .args .x .now) (b .args .y .now) (g .0 .0) (subst (Preferred (b .args .job .now) (b .args .x .now) (b .args .y .now)) (g .1) (c .before .before .prefer .ensures))
 
 returns-2 : tie.Need-returns-2
 returns-2 c =
+    let b = c .before .before .before .before .before .before in
     let g = c .enum-told2 .given in
-    choose-second (c .before .before .before .before .before .before .args .job .now) (c .before .before .before .before .before .before .args .x .now) (c .before .before .before .before .before .before .args .y .now) (g .0 .0) (subst (Preferred (c .before .before .before .before .before .before .args .job .now) (c .before .before .before .before .before .before .args .x .now) (c .before .before .before .before .before .before .args .y .now)) (g .1) (c .before .before .prefer .ensures))
+    choose-second (b .args .job .now) (b .args .x .now) (b .args .y .now) (g .0 .0) (subst (Preferred (b .args .job .now) (b .args .x .now) (b .args .y .now)) (g .1) (c .before .before .prefer .ensures))
 
 returns-3 : tie.Need-returns-3
 returns-3 c =
+    let b = c .before .before .before .before .before .before in
     let g = c .enum-told3 .given in
-    choose-neither (c .before .before .before .before .before .before .args .job .now) (c .before .before .before .before .before .before .args .x .now) (c .before .before .before .before .before .before .args .y .now) (subst (Preferred (c .before .before .before .before .before .before .args .job .now) (c .before .before .before .before .before .before .args .x .now) (c .before .before .before .before .before .before .args .y .now)) (g .1) (c .before .before .prefer .ensures))
+    choose-neither (b .args .job .now) (b .args .x .now) (b .args .y .now) (subst (Preferred (b .args .job .now) (b .args .x .now) (b .args .y .now)) (g .1) (c .before .before .prefer .ensures))
 
 pub numlejka-choose-spec : {M : Type 1} → statement M
 numlejka-choose-spec =

@@ -15,16 +15,18 @@ enum-known-number c = search needs
 
 returns : tie.Need-returns
 returns c =
+    let b = c .before .before .before .before .before .before in
     let m = c .before .before .before .measure in
     let g = c .before .figures .given in
-    let h = measure-answer (c .before .before .before .before .before .before .args .job .now) (c .before .before .before .before .before .before .args .sizing .now) (m .result) (m .ensures .0) (g .0 .0) (g .1) in
+    let h = measure-answer (b .args .job .now) (b .args .sizing .now) (m .result) (m .ensures .0) (g .0 .0) (g .1) in
     (h .0, (h .1, h .2))
 
 returns-2 : tie.Need-returns-2
 returns-2 c =
+    let b = c .before .before .before .before .before .before in
     let m = c .before .before .before .measure in
     let g = c .before .number .given in
-    let h = measure-refusal (c .before .before .before .before .before .before .args .job .now) (c .before .before .before .before .before .before .args .sizing .now) (m .result) (m .ensures .0) (g .0 .0) (c .before .before .before .before .before .before .args .delay .now) (c .before .before .before .before .before .before .args .load .now) (g .1) (m .ensures .1) in
+    let h = measure-refusal (b .args .job .now) (b .args .sizing .now) (m .result) (m .ensures .0) (g .0 .0) (b .args .delay .now) (b .args .load .now) (g .1) (m .ensures .1) in
     (h .0, (h .1, h .2))
 
 pub numlejka-measure-spec : {M : Type 1} → statement M

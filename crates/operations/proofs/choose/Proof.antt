@@ -21,18 +21,20 @@ enum-known-places c = search needs
 
 slice-aggregate-result : tie.Need-slice-aggregate-result
 slice-aggregate-result c =
+    let b = c .before .before .before .before .before .before .before .before in
     let g = c .before .before .places .given in
-    let f = subst (Preferred (c .before .before .before .before .before .before .before .before .args .job .now) (c .before .before .before .before .before .before .before .before .args .x .now) (c .before .before .before .before .before .before .before .before .args .y .now)) (g .1) (c .before .before .before .before .prefer .ensures) in
-    sym (length-take-le (g .0 .0) (c .before .before .before .before .before .before .before .before .args .x .now) (f .3))
+    let f = subst (Preferred (b .args .job .now) (b .args .x .now) (b .args .y .now)) (g .1) (c .before .before .before .before .prefer .ensures) in
+    sym (length-take-le (g .0 .0) (b .args .x .now) (f .3))
 
 enum-known-places-2 : tie.Need-enum-known-places-2
 enum-known-places-2 c = search needs
 
 slice-aggregate-result-2 : tie.Need-slice-aggregate-result-2
 slice-aggregate-result-2 c =
+    let b = c .before .before .before .before .before .before .before .before in
     let g = c .before .before .places2 .given in
-    let f = subst (Preferred (c .before .before .before .before .before .before .before .before .args .job .now) (c .before .before .before .before .before .before .before .before .args .x .now) (c .before .before .before .before .before .before .before .before .args .y .now)) (g .1) (c .before .before .before .before .prefer .ensures) in
-    sym (length-take-le (g .0 .0) (c .before .before .before .before .before .before .before .before .args .y .now) (f .3))
+    let f = subst (Preferred (b .args .job .now) (b .args .x .now) (b .args .y .now)) (g .1) (c .before .before .before .before .prefer .ensures) in
+    sym (length-take-le (g .0 .0) (b .args .y .now) (f .3))
 
 enum-told : tie.Need-enum-told
 enum-told c = search needs
@@ -42,23 +44,26 @@ slice-aggregate-result-3 c = search needs
 
 returns : tie.Need-returns
 returns c =
+    let b = c .before .before .before .before .before .before .before .before in
     let g = c .before .before .places .given in
-    let f = subst (Preferred (c .before .before .before .before .before .before .before .before .args .job .now) (c .before .before .before .before .before .before .before .before .args .x .now) (c .before .before .before .before .before .before .before .before .args .y .now)) (g .1) (c .before .before .before .before .prefer .ensures) in
-    let h = choose-first (c .before .before .before .before .before .before .before .before .args .job .now) (c .before .before .before .before .before .before .before .before .args .x .now) (c .before .before .before .before .before .before .before .before .args .y .now) (g .0 .0) f in
+    let f = subst (Preferred (b .args .job .now) (b .args .x .now) (b .args .y .now)) (g .1) (c .before .before .before .before .prefer .ensures) in
+    let h = choose-first (b .args .job .now) (b .args .x .now) (b .args .y .now) (g .0 .0) f in
     (h .0, (λ t. absurd (not-both t (h .1)), λ t. refl))
 
 returns-2 : tie.Need-returns-2
 returns-2 c =
+    let b = c .before .before .before .before .before .before .before .before in
     let g = c .before .before .places2 .given in
-    let f = subst (Preferred (c .before .before .before .before .before .before .before .before .args .job .now) (c .before .before .before .before .before .before .before .before .args .x .now) (c .before .before .before .before .before .before .before .before .args .y .now)) (g .1) (c .before .before .before .before .prefer .ensures) in
-    let h = choose-second (c .before .before .before .before .before .before .before .before .args .job .now) (c .before .before .before .before .before .before .before .before .args .x .now) (c .before .before .before .before .before .before .before .before .args .y .now) (g .0 .0) f in
+    let f = subst (Preferred (b .args .job .now) (b .args .x .now) (b .args .y .now)) (g .1) (c .before .before .before .before .prefer .ensures) in
+    let h = choose-second (b .args .job .now) (b .args .x .now) (b .args .y .now) (g .0 .0) f in
     (h .0, (λ t. refl, λ t. absurd (not-both (h .1) t)))
 
 returns-3 : tie.Need-returns-3
 returns-3 c =
+    let b = c .before .before .before .before .before .before .before in
     let g = c .before .enum-told .given in
-    let f = subst (Preferred (c .before .before .before .before .before .before .before .args .job .now) (c .before .before .before .before .before .before .before .args .x .now) (c .before .before .before .before .before .before .before .args .y .now)) (g .1) (c .before .before .before .prefer .ensures) in
-    let h = choose-neither (c .before .before .before .before .before .before .before .args .job .now) (c .before .before .before .before .before .before .before .args .x .now) (c .before .before .before .before .before .before .before .args .y .now) f in
+    let f = subst (Preferred (b .args .job .now) (b .args .x .now) (b .args .y .now)) (g .1) (c .before .before .before .prefer .ensures) in
+    let h = choose-neither (b .args .job .now) (b .args .x .now) (b .args .y .now) f in
     (h .empty, (λ t. absurd (not-both t (h .notSecond)), λ t. refl))
 
 pub choose-spec : {M : Type 1} → statement M

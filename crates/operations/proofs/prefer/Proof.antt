@@ -19,8 +19,9 @@ check-requires c κs = search needs
 
 returns : tie.Need-returns
 returns c =
+    let b = c .before .before .before .before .before .before .before .before .before .before in
     let k = c .before .before .before .before .check in
-    prefer-job (c .before .before .before .before .before .before .before .before .before .before .args .job .now) (c .before .before .before .before .before .before .before .before .before .before .args .x .now) (c .before .before .before .before .before .before .before .before .before .before .args .y .now) (k .result .number) (k .ensures .number) (λ e. omega arith)
+    prefer-job (b .args .job .now) (b .args .x .now) (b .args .y .now) (k .result .number) (k .ensures .number) (λ e. omega arith)
 
 sizing-number-requires : tie.Need-sizing-number-requires
 sizing-number-requires c κs =
@@ -30,10 +31,11 @@ sizing-number-requires c κs =
 
 returns-2 : tie.Need-returns-2
 returns-2 c =
+    let b = c .before .before .before .before .before .before .before .before .before .before .before .before .before in
     let k = c .before .before .before .before .before .before .before .check in
     let z : k .result .number ≡ 0 = omega arith in
     let n = c .before .sizing-number in
-    prefer-first-no (c .before .before .before .before .before .before .before .before .before .before .before .before .before .args .job .now) (c .before .before .before .before .before .before .before .before .before .before .before .before .before .args .x .now) (c .before .before .before .before .before .before .before .before .before .before .before .before .before .args .y .now) (k .ensures .passed z) (sym (k .ensures .number) ∙ z) (n .result) (n .ensures) (λ e. omega arith)
+    prefer-first-no (b .args .job .now) (b .args .x .now) (b .args .y .now) (k .ensures .passed z) (sym (k .ensures .number) ∙ z) (n .result) (n .ensures) (λ e. omega arith)
 
 sizing-number-requires-2 : tie.Need-sizing-number-requires-2
 sizing-number-requires-2 c κs =
@@ -43,10 +45,11 @@ sizing-number-requires-2 c κs =
 
 returns-3 : tie.Need-returns-3
 returns-3 c =
+    let b = c .before .before .before .before .before .before .before .before .before .before .before .before .before .before .before in
     let k = c .before .before .before .before .before .before .before .before .before .check in
     let z : k .result .number ≡ 0 = omega arith in
     let n = c .before .sizing-number2 in
-    prefer-second-no (c .before .before .before .before .before .before .before .before .before .before .before .before .before .before .before .args .job .now) (c .before .before .before .before .before .before .before .before .before .before .before .before .before .before .before .args .x .now) (c .before .before .before .before .before .before .before .before .before .before .before .before .before .before .before .args .y .now) (k .ensures .passed z) (sym (k .ensures .number) ∙ z) (n .result) (n .ensures) (λ e. omega arith)
+    prefer-second-no (b .args .job .now) (b .args .x .now) (b .args .y .now) (k .ensures .passed z) (sym (k .ensures .number) ∙ z) (n .result) (n .ensures) (λ e. omega arith)
 
 add-places : tie.Need-add-places
 add-places c =
@@ -62,11 +65,12 @@ slice-aggregate-delay-2 c = search needs
 
 delay-requires : tie.Need-delay-requires
 delay-requires c κs =
+    let b = c .before .before .before .before .before .before .before .before .before .before .before .before .before .before .before .before .before .before in
     let k = c .before .before .before .before .before .before .before .before .before .before .before .before .check in
     let z : k .result .number ≡ 0 = omega arith in
     let n = c .before .before .before .before .before .before .sizing-number in
     let u : n .result ≡ 0 = omega (arith, n .ensures) in
-    (record { checked = k .ensures .passed z; inRanges = number-ranges (netBy (k .result .counts) (c .before .before .before .before .before .before .before .before .before .before .before .before .before .before .before .before .before .before .args .job .now)) (c .before .before .before .before .before .before .before .before .before .before .before .before .before .before .before .before .before .before .args .x .now) (sym (n .ensures) ∙ u) }, k .ensures .linked z)
+    (record { checked = k .ensures .passed z; inRanges = number-ranges (netBy (k .result .counts) (b .args .job .now)) (b .args .x .now) (sym (n .ensures) ∙ u) }, k .ensures .linked z)
 
 slice-aggregate-delay-3 : tie.Need-slice-aggregate-delay-3
 slice-aggregate-delay-3 c = search needs
@@ -76,14 +80,16 @@ slice-aggregate-delay-4 c = search needs
 
 delay-requires-2 : tie.Need-delay-requires-2
 delay-requires-2 c κs =
+    let b = c .before .before .before .before .before .before .before .before .before .before .before .before .before .before .before .before .before .before .before .before .before in
     let k = c .before .before .before .before .before .before .before .before .before .before .before .before .before .before .before .check in
     let z : k .result .number ≡ 0 = omega arith in
     let m = c .before .before .before .before .before .before .before .sizing-number2 in
     let v : m .result ≡ 0 = omega (arith, m .ensures) in
-    (record { checked = k .ensures .passed z; inRanges = number-ranges (netBy (k .result .counts) (c .before .before .before .before .before .before .before .before .before .before .before .before .before .before .before .before .before .before .before .before .before .args .job .now)) (c .before .before .before .before .before .before .before .before .before .before .before .before .before .before .before .before .before .before .before .before .before .args .y .now) (sym (m .ensures) ∙ v) }, k .ensures .linked z)
+    (record { checked = k .ensures .passed z; inRanges = number-ranges (netBy (k .result .counts) (b .args .job .now)) (b .args .y .now) (sym (m .ensures) ∙ v) }, k .ensures .linked z)
 
 returns-4 : tie.Need-returns-4
 returns-4 c =
+    let b = c .before .before .before .before .before .before .before .before .before .before .before .before .before .before .before .before .before .before .before .before .before .before .before .before .before in
     let k = c .before .before .before .before .before .before .before .before .before .before .before .before .before .before .before .before .before .before .before .check in
     let z : k .result .number ≡ 0 = omega (arith, c .before .before .before .before .before .before .before .before .before .before .before .before .before .before .before .if1 .left) in
     let n = c .before .before .before .before .before .before .before .before .before .before .before .before .before .sizing-number in
@@ -92,10 +98,11 @@ returns-4 c =
     let v : m .result ≡ 0 = omega (arith, c .before .before .before .before .before .before .before .before .before .before .if3 .left) in
     let d = c .before .before .before .before .before .before .delay in
     let e = c .before .before .before .delay2 in
-    prefer-first (c .before .before .before .before .before .before .before .before .before .before .before .before .before .before .before .before .before .before .before .before .before .before .before .before .before .args .job .now) (c .before .before .before .before .before .before .before .before .before .before .before .before .before .before .before .before .before .before .before .before .before .before .before .before .before .args .x .now) (c .before .before .before .before .before .before .before .before .before .before .before .before .before .before .before .before .before .before .before .before .before .before .before .before .before .args .y .now) (k .ensures .passed z) (sym (k .ensures .number) ∙ z) (sym (n .ensures) ∙ u) (sym (m .ensures) ∙ v) (d .result .0) (e .result .0) (d .ensures) (e .ensures) (omega arith)
+    prefer-first (b .args .job .now) (b .args .x .now) (b .args .y .now) (k .ensures .passed z) (sym (k .ensures .number) ∙ z) (sym (n .ensures) ∙ u) (sym (m .ensures) ∙ v) (d .result .0) (e .result .0) (d .ensures) (e .ensures) (omega arith)
 
 returns-5 : tie.Need-returns-5
 returns-5 c =
+    let b = c .before .before .before .before .before .before .before .before .before .before .before .before .before .before .before .before .before .before .before .before .before .before .before .before .before in
     let k = c .before .before .before .before .before .before .before .before .before .before .before .before .before .before .before .before .before .before .before .check in
     let z : k .result .number ≡ 0 = omega (arith, c .before .before .before .before .before .before .before .before .before .before .before .before .before .before .before .if1 .left) in
     let n = c .before .before .before .before .before .before .before .before .before .before .before .before .before .sizing-number in
@@ -104,7 +111,7 @@ returns-5 c =
     let v : m .result ≡ 0 = omega (arith, c .before .before .before .before .before .before .before .before .before .before .if3 .left) in
     let d = c .before .before .before .before .before .before .delay in
     let e = c .before .before .before .delay2 in
-    prefer-second (c .before .before .before .before .before .before .before .before .before .before .before .before .before .before .before .before .before .before .before .before .before .before .before .before .before .args .job .now) (c .before .before .before .before .before .before .before .before .before .before .before .before .before .before .before .before .before .before .before .before .before .before .before .before .before .args .x .now) (c .before .before .before .before .before .before .before .before .before .before .before .before .before .before .before .before .before .before .before .before .before .before .before .before .before .args .y .now) (k .ensures .passed z) (sym (k .ensures .number) ∙ z) (sym (n .ensures) ∙ u) (sym (m .ensures) ∙ v) (d .result .0) (e .result .0) (d .ensures) (e .ensures) (omega arith)
+    prefer-second (b .args .job .now) (b .args .x .now) (b .args .y .now) (k .ensures .passed z) (sym (k .ensures .number) ∙ z) (sym (n .ensures) ∙ u) (sym (m .ensures) ∙ v) (d .result .0) (e .result .0) (d .ensures) (e .ensures) (omega arith)
 
 pub prefer-spec : {M : Type 1} → statement M
 prefer-spec =
