@@ -161,6 +161,13 @@ fn scattered(random: &mut Random, count: usize, high: u32) -> Vec<u32> {
     numbers
 }
 
+/// Adds a segment that has a sink and is free in every width of its plan.
+fn push_with_sink(plan: &mut Plan, parent: u8, length: u32, capacitance: u32, weight: u8) {
+    let widest = plan.widths.len() as u8 - 1;
+    plan.segments
+        .push(segment_with_sink(parent, length, capacitance, weight, [0, widest]));
+}
+
 /// A plan of coarse tables and several free stages, where stages and widths pull each other and the bounds stay apart.
 pub fn pulling_plan(random: &mut Random, most: u128) -> Plan {
     let (width_count, size_count) = (random.between(2, 4) as usize, random.between(2, 4) as usize);
@@ -186,13 +193,7 @@ pub fn pulling_plan(random: &mut Random, most: u128) -> Plan {
     for segment in 0..random.between(1, 4) as usize {
         let (parent, length) = (parent_byte(random, shape, segment), random.between(1, 2));
         let (capacitance, weight) = (random.between(0, 6), random.pick(&[0, 1, 1, 1, 2]));
-        plan.segments.push(segment_with_sink(
-            parent,
-            length,
-            capacitance,
-            weight,
-            [0, width_count as u8 - 1],
-        ));
+        push_with_sink(&mut plan, parent, length, capacitance, weight);
     }
     narrow(random, &mut plan, most);
     plan
@@ -295,13 +296,7 @@ fn geometric_plan(random: &mut Random, segments: usize) -> Plan {
     for segment in 0..segments {
         let (parent, length) = (parent_byte(random, shape, segment), random.between(5, 80));
         let (capacitance, weight) = (random.between(100, 400), random.pick(&[1, 2, 3, 4, 8, 12, 20]));
-        plan.segments.push(segment_with_sink(
-            parent,
-            length,
-            capacitance,
-            weight,
-            [0, width_count as u8 - 1],
-        ));
+        push_with_sink(&mut plan, parent, length, capacitance, weight);
     }
     plan
 }

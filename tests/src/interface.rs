@@ -21,8 +21,7 @@ unsafe extern "C" {
         above: u8,
         best: *mut u8,
     ) -> usize;
-    fn numlejka_choose(job: *const u8, job_len: usize, x: *const u8, x_len: usize, y: *const u8, y_len: usize)
-    -> usize;
+    fn numlejka_choose(job: *const u8, job_len: usize, x: *const u8, x_len: usize, y: *const u8, y_len: usize) -> usize;
     fn numlejka_size(job: *const u8, job_len: usize, reply: *mut u8, reply_len: usize) -> usize;
 }
 
@@ -35,9 +34,7 @@ const BEST_BEFORE: u8 = 0xa5;
 pub fn measure(job: &[u8], sizing: &[u8], figures: &mut [u8]) -> u64 {
     let (mut delay, mut load) = (DELAY_BEFORE, LOAD_BEFORE);
     // SAFETY: every slice's pointer comes with its length, and the two figures are this function's own.
-    let number = unsafe {
-        numlejka_measure(job.as_ptr(), job.len(), sizing.as_ptr(), sizing.len(), &mut delay, &mut load)
-    };
+    let number = unsafe { numlejka_measure(job.as_ptr(), job.len(), sizing.as_ptr(), sizing.len(), &mut delay, &mut load) };
     if number == 0 {
         figures[..8].copy_from_slice(&delay.to_le_bytes());
         figures[8..16].copy_from_slice(&load.to_le_bytes());
@@ -51,9 +48,7 @@ pub fn measure(job: &[u8], sizing: &[u8], figures: &mut [u8]) -> u64 {
 pub fn refine(job: &[u8], sizing: &[u8], place: usize, side: u8, index: &mut [u8]) -> u64 {
     let mut best = BEST_BEFORE;
     // SAFETY: every slice's pointer comes with its length, and the index is this function's own.
-    let number = unsafe {
-        numlejka_refine(job.as_ptr(), job.len(), sizing.as_ptr(), sizing.len(), place, side, &mut best)
-    };
+    let number = unsafe { numlejka_refine(job.as_ptr(), job.len(), sizing.as_ptr(), sizing.len(), place, side, &mut best) };
     if number == 0 {
         index[0] = best;
     } else {

@@ -61,8 +61,16 @@ fn printed(job: &[u8]) -> String {
     }
     let stages = job.chunks(16).filter(|record| record[0] == 3).count();
     for (place, record) in bytes.chunks(8).skip(1).enumerate() {
-        let (kind, at) = if place < stages { ("stage", place) } else { ("segment", place - stages) };
-        let found = if number == 0 { format!("{} {}", record[2], record[3]) } else { "- -".to_string() };
+        let (kind, at) = if place < stages {
+            ("stage", place)
+        } else {
+            ("segment", place - stages)
+        };
+        let found = if number == 0 {
+            format!("{} {}", record[2], record[3])
+        } else {
+            "- -".to_string()
+        };
         text += &format!("{kind} {at} {} {} {found}\n", record[0], record[1]);
     }
     text
@@ -89,7 +97,12 @@ fn jobs() -> Vec<Vec<u8>> {
 fn sizer_prints_what_the_reference_says() {
     for job in jobs() {
         let output = run("sizer", &job);
-        assert_eq!(String::from_utf8_lossy(&output.stdout), printed(&job), "a job of {} bytes", job.len());
+        assert_eq!(
+            String::from_utf8_lossy(&output.stdout),
+            printed(&job),
+            "a job of {} bytes",
+            job.len()
+        );
         assert!(output.stderr.is_empty());
     }
 }
@@ -105,7 +118,11 @@ fn sizer_reply_writes_the_reply_or_a_line_on_standard_error() {
         }
         let (number, bytes) = reply(&job);
         assert_eq!(output.stdout, bytes, "a job of {} bytes", job.len());
-        let line = if bytes.is_empty() { format!("refused {number}\n") } else { String::new() };
+        let line = if bytes.is_empty() {
+            format!("refused {number}\n")
+        } else {
+            String::new()
+        };
         assert_eq!(String::from_utf8_lossy(&output.stderr), line);
     }
 }
@@ -122,11 +139,18 @@ fn the_stored_vectors_are_what_the_reference_writes_today() {
     let folder = std::env::temp_dir().join(format!("numlejka-vectors-{}", std::process::id()));
     std::fs::create_dir_all(&folder).expect("a folder for the files");
     let (calls, answers) = (folder.join("stdin"), folder.join("stdout"));
-    let status = Command::new(env!("CARGO_BIN_EXE_vectors")).arg(&calls).arg(&answers).status().expect("the writer runs");
+    let status = Command::new(env!("CARGO_BIN_EXE_vectors"))
+        .arg(&calls)
+        .arg(&answers)
+        .status()
+        .expect("the writer runs");
     assert!(status.success());
     for (written, stored) in [(calls, "stdin"), (answers, "stdout")] {
         let stored = std::fs::read(top().join("crates/vectors").join(stored)).expect("a stored file");
-        assert!(std::fs::read(written).expect("a written file") == stored, "the stored vectors differ from the reference's");
+        assert!(
+            std::fs::read(written).expect("a written file") == stored,
+            "the stored vectors differ from the reference's"
+        );
     }
     std::fs::remove_dir_all(folder).expect("the folder goes");
 }
