@@ -1,0 +1,84 @@
+//! What is timed.
+
+use crate::jobs::{self, Shape};
+
+/// What a case calls.
+pub enum Work {
+    Measure { sizing: Vec<u8> },
+    Size,
+}
+
+/// A job and what is done with it.
+pub struct Case {
+    pub name: String,
+    pub job: Vec<u8>,
+    pub work: Work,
+}
+
+fn measure(name: &str, stages: usize, segments: usize, shape: Shape) -> Case {
+    Case {
+        name: format!("measure, {name}"),
+        job: jobs::net(stages, segments, shape).bytes(),
+        work: Work::Measure {
+            sizing: jobs::sizing(stages, segments),
+        },
+    }
+}
+
+fn size(name: &str, job: Vec<u8>) -> Case {
+    Case {
+        name: format!("size, {name}"),
+        job,
+        work: Work::Size,
+    }
+}
+
+/// All cases, in the order of the table.
+pub fn all() -> Vec<Case> {
+    let mut cases = vec![
+        measure("hardest: 4 stages, 64 segments", 4, 64, Shape::Binary),
+        measure("median: 2 stages, 16 segments", 2, 16, Shape::Binary),
+    ];
+    for segments in [4, 8, 16, 32, 64] {
+        cases.push(measure(&format!("1 stage, {segments} segments"), 1, segments, Shape::Binary));
+    }
+    cases.push(measure("1 stage, 64 segments in a chain", 1, 64, Shape::Chain));
+    cases.push(measure("1 stage, 64 segments at the source", 1, 64, Shape::Star));
+    cases.push(size(
+        "bounds only: 2 stages, 16 segments, room 1",
+        jobs::net(2, 16, Shape::Binary).bytes(),
+    ));
+    cases.push(size(
+        "bounds only: 4 stages, 64 segments, room 1",
+        jobs::net(4, 64, Shape::Binary).bytes(),
+    ));
+    cases.push(size(
+        "hardest, first places free, all tie: room 65,536",
+        jobs::first_free().bytes(),
+    ));
+    cases.push(size(
+        "hardest, last segments free, all tie: room 65,536",
+        jobs::last_free().bytes(),
+    ));
+    cases.push(size(
+        "hardest, first places free, weighted: room 57,600",
+        include_bytes!("../jobs/first.job").to_vec(),
+    ));
+    cases.push(size(
+        "hardest, last segments free, weighted: room 61,740",
+        include_bytes!("../jobs/last.job").to_vec(),
+    ));
+    cases.push(size(
+        "median, all tie: 2 stages, 16 segments, room 512",
+        jobs::median_unweighted().bytes(),
+    ));
+    cases.push(size(
+        "median, weighted: 2 stages, 16 segments, room 576",
+        include_bytes!("../jobs/median.job").to_vec(),
+    ));
+    cases.push(size(
+        "examples/clock.job: room 512",
+        include_bytes!("../../examples/clock.job").to_vec(),
+    ));
+    cases
+}

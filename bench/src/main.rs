@@ -1,0 +1,118 @@
+//! Times the library against plain Rust that does the same, and prints one table.
+
+mod cases;
+mod find;
+mod jobs;
+mod library;
+mod plain;
+mod timing;
+
+use cases::{Case, Work};
+use std::env;
+use std::hint::black_box;
+use timing::{Times, interleaved};
+
+/// A reply buffer that holds every reply. It is not cleared between calls.
+const REPLY: usize = 552;
+
+fn size_timed(job: &[u8], size: impl Fn(&[u8], &mut [u8]) -> usize) -> impl FnMut() {
+    let job = job.to_vec();
+    let mut reply = [0; REPLY];
+    move || {
+        black_box(size(black_box(&job), black_box(&mut reply)));
+    }
+}
+
+fn measure_timed(job: &[u8], sizing: &[u8], measure: impl Fn(&[u8], &[u8]) -> Result<(u64, u64), usize>) -> impl FnMut() {
+    let (job, sizing) = (job.to_vec(), sizing.to_vec());
+    move || {
+        let _ = black_box(measure(black_box(&job), black_box(&sizing)));
+    }
+}
+
+/// The times of a case: the library, plain Rust (a), (c), and (b) where the case has a search.
+fn times(case: &Case) -> Times {
+    match &case.work {
+        Work::Measure { sizing } => interleaved(&mut [
+            &mut measure_timed(&case.job, sizing, library::measure),
+            &mut measure_timed(&case.job, sizing, plain::measure),
+            &mut measure_timed(&case.job, sizing, plain::measure_fastest),
+        ]),
+        Work::Size => interleaved(&mut [
+            &mut size_timed(&case.job, library::size),
+            &mut size_timed(&case.job, plain::size),
+            &mut size_timed(&case.job, plain::size_fastest),
+            &mut size_timed(&case.job, plain::size_by_whole_delays),
+        ]),
+    }
+}
+
+fn figure(nanoseconds: f64) -> String {
+    match nanoseconds {
+        t if t < 1e3 => format!("{t:.0} ns"),
+        t if t < 1e5 => format!("{:.2} µs", t / 1e3),
+        t if t < 1e6 => format!("{:.0} µs", t / 1e3),
+        t => format!("{:.2} ms", t / 1e6),
+    }
+}
+
+fn ratio(times: &Times, of: usize, to: usize) -> String {
+    let (low, middle, high) = times.ratio(of, to);
+    format!("{middle:.2} ({low:.2}–{high:.2})")
+}
+
+/// Prints the table of the cases whose name has a text in it.
+fn print_table(text: &str) {
+    println!("| case | library | (a) | library / (a) | (b) | (b) / library | (c) | library / (c) |");
+    println!("|---|---|---|---|---|---|---|---|");
+    for case in cases::all().into_iter().filter(|case| case.name.contains(text)) {
+        let times = times(&case);
+        let [library, as_library, fastest] = [0, 1, 2].map(|side| figure(times.median(side)));
+        let whole = match &case.work {
+            Work::Measure { .. } => "– | –".to_string(),
+            Work::Size => format!("{} | {}", figure(times.median(3)), ratio(&times, 3, 0)),
+        };
+        println!(
+            "| {} | {library} | {as_library} | {} | {whole} | {fastest} | {} |",
+            case.name,
+            ratio(&times, 0, 1),
+            ratio(&times, 0, 2)
+        );
+    }
+}
+
+/// Calls one side of one case as often as asked, for a profiler: `only CASE SIDE COUNT`.
+fn only(words: &[String]) {
+    let [case, side, count] = words else {
+        panic!("only CASE SIDE COUNT")
+    };
+    let all = cases::all();
+    let case = all
+        .iter()
+        .find(|c| c.name.contains(case.as_str()))
+        .expect("a case has that name");
+    let count: usize = count.parse().expect("COUNT is a number");
+    let mut call: Box<dyn FnMut()> = match (&case.work, side.as_str()) {
+        (Work::Measure { sizing }, "library") => Box::new(measure_timed(&case.job, sizing, library::measure)),
+        (Work::Measure { sizing }, "c") => Box::new(measure_timed(&case.job, sizing, plain::measure_fastest)),
+        (Work::Measure { sizing }, _) => Box::new(measure_timed(&case.job, sizing, plain::measure)),
+        (Work::Size, "library") => Box::new(size_timed(&case.job, library::size)),
+        (Work::Size, "c") => Box::new(size_timed(&case.job, plain::size_fastest)),
+        (Work::Size, "b") => Box::new(size_timed(&case.job, plain::size_by_whole_delays)),
+        (Work::Size, _) => Box::new(size_timed(&case.job, plain::size)),
+    };
+    (0..count).for_each(|_| call());
+}
+
+fn main() {
+    let words: Vec<String> = env::args().skip(1).collect();
+    match words.first().map(String::as_str) {
+        None => print_table(""),
+        Some("find") => find::find(),
+        Some("only") => only(&words[1..]),
+        Some(text) => print_table(text),
+    }
+}
+
+#[cfg(test)]
+mod tests;

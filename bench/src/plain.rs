@@ -1,0 +1,613 @@
+//! The same work in plain Rust: questions 1 to 11, delay, refining, bounds, search, reply.
+//! Nothing is shared with the library. A job that passes the questions is read in place, through slices of its records.
+//!
+//! Three ways to go:
+//! (a) as the library goes: the delay by a walk over the branches, the search with partial sums;
+//! (b) the delay as in (a), and the search by the whole delay of each sizing;
+//! (c) the fastest that we know: the delay by one pass without recursion, the search as in (a), with a loop for each run
+//!     of places that have one index.
+
+/// A record of a job.
+pub type Record = [u8; 16];
+
+/// The most places, nodes and segments of a job.
+const PLACES: usize = 68;
+const SEGMENTS: usize = 64;
+
+/// The most sizings that a search covers.
+const ROOM: u64 = 65_536;
+
+/// A job's records by kind.
+#[derive(Clone, Copy)]
+pub struct Net<'a> {
+    pub widths: &'a [Record],
+    pub sizes: &'a [Record],
+    pub stages: &'a [Record],
+    pub segments: &'a [Record],
+}
+
+/// The first segment at each node and the next sibling of each segment; `segments.len()` where there is none.
+pub struct Links {
+    first: [usize; SEGMENTS + 1],
+    next: [usize; SEGMENTS],
+}
+
+/// The end of a tie that refining answers.
+#[derive(Clone, Copy, PartialEq, Eq)]
+pub enum Side {
+    Below,
+    Above,
+}
+
+/// How to go.
+#[derive(Clone, Copy, PartialEq, Eq)]
+enum Way {
+    AsLibrary,
+    WholeDelays,
+    Fastest,
+}
+
+fn word(record: &Record, at: usize) -> u64 {
+    u32::from_le_bytes([record[at], record[at + 1], record[at + 2], record[at + 3]]).into()
+}
+
+fn in_order(records: &[Record]) -> bool {
+    records.iter().enumerate().all(|(k, r)| usize::from(r[1]) == k)
+}
+
+fn falls(records: &[Record], at: usize) -> bool {
+    records.windows(2).all(|w| word(&w[1], at) < word(&w[0], at))
+}
+
+fn rises(records: &[Record], at: usize) -> bool {
+    records.windows(2).all(|w| word(&w[0], at) < word(&w[1], at))
+}
+
+fn words_within(records: &[Record], at: usize, least: u64, most: u64) -> bool {
+    records.iter().all(|r| (least..=most).contains(&word(r, at)))
+}
+
+fn ranges_within(records: &[Record], at: usize, count: usize) -> bool {
+    records.iter().all(|r| r[at] <= r[at + 1] && usize::from(r[at + 1]) < count)
+}
+
+fn sinks_or_none(segments: &[Record]) -> bool {
+    segments.iter().all(|r| r[3] != 0 || (word(r, 8) == 0 && r[12] == 0))
+}
+
+/// Asks questions 1 to 11 and links the segments; the number of the first question that the job fails is the error.
+fn check<'a>(job: &'a [u8], links: &mut Links) -> Result<Net<'a>, usize> {
+    let (records, rest) = job.as_chunks::<16>();
+    if job.is_empty() || !rest.is_empty() {
+        return Err(1);
+    }
+    if !records.iter().all(|r| (1..=4).contains(&r[0])) || !records.windows(2).all(|w| w[0][0] <= w[1][0]) {
+        return Err(2);
+    }
+    let mut counts = [0usize; 5];
+    for record in records {
+        counts[usize::from(record[0])] += 1;
+    }
+    let [_, widths, sizes, stages, segments] = counts;
+    if !(1..=8).contains(&widths)
+        || !(1..=16).contains(&sizes)
+        || !(1..=4).contains(&stages)
+        || !(1..=SEGMENTS).contains(&segments)
+    {
+        return Err(3);
+    }
+    let (widths, records) = records.split_at(widths);
+    let (sizes, records) = records.split_at(sizes);
+    let (stages, segments) = records.split_at(stages);
+    if !(in_order(widths) && in_order(sizes) && in_order(stages) && in_order(segments)) {
+        return Err(4);
+    }
+    if !(widths.iter().all(|r| r[2..4] == [0; 2] && r[12..] == [0; 4])
+        && sizes.iter().all(|r| r[2..4] == [0; 2])
+        && stages.iter().all(|r| r[4..] == [0; 12])
+        && segments.iter().all(|r| r[15] == 0)
+        && sinks_or_none(segments))
+    {
+        return Err(5);
+    }
+    if !(words_within(widths, 4, 1, 100)
+        && words_within(widths, 8, 1, 100)
+        && words_within(sizes, 4, 1, 100_000)
+        && words_within(sizes, 8, 1, 100_000)
+        && words_within(sizes, 12, 0, 100_000))
+    {
+        return Err(6);
+    }
+    if !(falls(widths, 4) && rises(widths, 8) && falls(sizes, 4) && rises(sizes, 8)) {
+        return Err(7);
+    }
+    if !ranges_within(stages, 2, sizes.len()) || stages[0][2] != stages[0][3] {
+        return Err(8);
+    }
+    if !segments.iter().enumerate().all(|(i, r)| usize::from(r[2]) <= i) {
+        return Err(9);
+    }
+    if !(segments.iter().all(|r| r[3] <= 1)
+        && words_within(segments, 4, 1, 1_000)
+        && words_within(segments, 8, 0, 100_000)
+        && sinks_or_none(segments)
+        && ranges_within(segments, 13, widths.len()))
+    {
+        return Err(10);
+    }
+    links.fill(segments);
+    let without = segments.len();
+    if !segments
+        .iter()
+        .zip(&links.first[1..])
+        .all(|(r, &child)| r[3] != 0 || child < without)
+    {
+        return Err(11);
+    }
+    Ok(Net {
+        widths,
+        sizes,
+        stages,
+        segments,
+    })
+}
+
+impl Links {
+    fn new() -> Self {
+        Links {
+            first: [0; SEGMENTS + 1],
+            next: [0; SEGMENTS],
+        }
+    }
+
+    fn fill(&mut self, segments: &[Record]) {
+        let n = segments.len();
+        self.first[..=n].fill(n);
+        for (j, record) in segments.iter().enumerate().rev() {
+            let node = usize::from(record[2]);
+            self.next[j] = self.first[node];
+            self.first[node] = j;
+        }
+    }
+}
+
+/// A part of the tree: the weight of its sinks, its load, and the scaled delay that arises inside it.
+#[derive(Clone, Copy)]
+struct Part {
+    weight: u64,
+    load: u64,
+    delay: u64,
+}
+
+impl Net<'_> {
+    fn places(&self) -> usize {
+        self.stages.len() + self.segments.len()
+    }
+
+    fn lowest(&self, p: usize) -> u8 {
+        match self.stages.get(p) {
+            Some(stage) => stage[2],
+            None => self.segments[p - self.stages.len()][13],
+        }
+    }
+
+    fn highest(&self, p: usize) -> u8 {
+        match self.stages.get(p) {
+            Some(stage) => stage[3],
+            None => self.segments[p - self.stages.len()][14],
+        }
+    }
+
+    /// Segment j and its siblings after it, each with all below it; `widths` are the indices of the segments.
+    fn branches(&self, links: &Links, widths: &[u8], j: usize) -> Part {
+        let mut part = Part {
+            weight: 0,
+            load: 0,
+            delay: 0,
+        };
+        let mut i = j;
+        while let Some(segment) = self.segments.get(i) {
+            let row = &self.widths[usize::from(widths[i])];
+            let length = word(segment, 4);
+            let (resistance, own) = (word(row, 4) * length, word(row, 8) * length);
+            let below = self.branches(links, widths, links.first[i + 1]);
+            let weight = u64::from(segment[12]) + below.weight;
+            let under = word(segment, 8) + below.load;
+            part.weight += weight;
+            part.load += own + under;
+            part.delay += weight * (resistance * (own + 2 * under)) + below.delay;
+            i = links.next[i];
+        }
+        part
+    }
+
+    /// The whole tree by one pass, from the last segment to the first: each adds its weight and load to its parent's.
+    fn tree_by_pass(&self, widths: &[u8]) -> Part {
+        let mut below = [(0, 0); SEGMENTS + 1];
+        let mut delay = 0;
+        for (i, (segment, &k)) in self.segments.iter().zip(widths).enumerate().rev() {
+            let row = &self.widths[usize::from(k)];
+            let length = word(segment, 4);
+            let own = word(row, 8) * length;
+            let weight = u64::from(segment[12]) + below[i + 1].0;
+            let under = word(segment, 8) + below[i + 1].1;
+            delay += weight * (word(row, 4) * length * (own + 2 * under));
+            let parent = &mut below[usize::from(segment[2])];
+            parent.0 += weight;
+            parent.1 += own + under;
+        }
+        Part {
+            weight: below[0].0,
+            load: below[0].1,
+            delay,
+        }
+    }
+
+    /// The sum over the stages of what each contributes to every sink.
+    fn stages_delay(&self, sizes: &[u8], tree: u64) -> u64 {
+        let mut sum = 0;
+        let mut driven = tree;
+        for &k in sizes.iter().rev() {
+            let size = &self.sizes[usize::from(k)];
+            sum += word(size, 4) * (word(size, 12) + driven);
+            driven = word(size, 8);
+        }
+        sum
+    }
+
+    /// The scaled delay of a sizing, and the load of its tree.
+    fn delay<const PASS: bool>(&self, links: &Links, sizing: &[u8]) -> (u64, u64) {
+        let (sizes, widths) = sizing.split_at(self.stages.len());
+        let tree = if PASS {
+            self.tree_by_pass(widths)
+        } else {
+            self.branches(links, widths, links.first[0])
+        };
+        (
+            tree.weight * (2 * self.stages_delay(sizes, tree.load)) + tree.delay,
+            tree.load,
+        )
+    }
+
+    fn gates(&self, sizes: &[u8]) -> u64 {
+        sizes[1..].iter().map(|&k| word(&self.sizes[usize::from(k)], 8)).sum()
+    }
+
+    /// Puts the best index at a place, the rest held.
+    fn settle<const PASS: bool>(&self, links: &Links, x: &mut [u8], p: usize, side: Side) {
+        let (low, high) = (self.lowest(p), self.highest(p));
+        x[p] = low;
+        let mut best = low;
+        let mut least = self.delay::<PASS>(links, x).0;
+        for k in low + 1..=high {
+            x[p] = k;
+            let d = self.delay::<PASS>(links, x).0;
+            if d < least || (d == least && side == Side::Above) {
+                least = d;
+                best = k;
+            }
+        }
+        x[p] = best;
+    }
+
+    /// The bound from a side, by sweeps until nothing changes.
+    fn bound<const PASS: bool>(&self, links: &Links, x: &mut [u8], side: Side) {
+        for (p, index) in x.iter_mut().enumerate() {
+            *index = if side == Side::Below {
+                self.lowest(p)
+            } else {
+                self.highest(p)
+            };
+        }
+        loop {
+            let mut changed = false;
+            for p in 0..x.len() {
+                let before = x[p];
+                self.settle::<PASS>(links, x, p, side);
+                changed |= x[p] != before;
+            }
+            if !changed {
+                return;
+            }
+        }
+    }
+
+    /// The weight that a place's delay has: that of the sinks behind a segment, twice that of all sinks for a stage.
+    fn weigh(&self, links: &Links, weights: &mut [u64]) {
+        let (of_stages, of_segments) = weights.split_at_mut(self.stages.len());
+        for (i, segment) in self.segments.iter().enumerate().rev() {
+            of_segments[i] = u64::from(segment[12]) + links.sum(of_segments, links.first[i + 1]);
+        }
+        of_stages.fill(2 * links.sum(of_segments, links.first[0]));
+    }
+}
+
+impl Links {
+    /// The sum of what `values` has for segment j and its siblings after it.
+    fn sum(&self, values: &[u64], j: usize) -> u64 {
+        let mut sum = 0;
+        let mut i = j;
+        while let Some(value) = values.get(i) {
+            sum += value;
+            i = self.next[i];
+        }
+        sum
+    }
+}
+
+/// The least delay so far, and the envelopes of the sizings that have it.
+struct Found<'a> {
+    least: u64,
+    lean: &'a mut [u8],
+    wide: &'a mut [u8],
+}
+
+impl Found<'_> {
+    fn keep(&mut self, x: &[u8], delay: u64) {
+        if delay < self.least {
+            self.least = delay;
+            self.lean.copy_from_slice(x);
+            self.wide.copy_from_slice(x);
+        } else if delay == self.least {
+            for (a, &b) in self.lean.iter_mut().zip(x) {
+                *a = b.min(*a);
+            }
+            for (a, &b) in self.wide.iter_mut().zip(x) {
+                *a = b.max(*a);
+            }
+        }
+    }
+}
+
+/// The search that carries loads and delay along, from the last place to the first.
+struct Search<'a, 'f> {
+    net: Net<'a>,
+    links: &'a Links,
+    weights: &'a [u64],
+    lower: &'a [u8],
+    upper: &'a [u8],
+    x: &'a mut [u8],
+    loads: &'a mut [u64],
+    found: &'a mut Found<'f>,
+}
+
+impl Search<'_, '_> {
+    /// The load that a stage drives, from the loads of the places after it.
+    fn driven_by_stage(&self, s: usize) -> u64 {
+        let stages = self.net.stages.len();
+        if s + 1 == stages {
+            self.links.sum(&self.loads[stages..], self.links.first[0])
+        } else {
+            self.loads[s + 1]
+        }
+    }
+
+    /// The load that a segment drives: its sink and its branches.
+    fn driven_by_segment(&self, segment: &Record, i: usize) -> u64 {
+        word(segment, 8) + self.links.sum(&self.loads[self.net.stages.len()..], self.links.first[i + 1])
+    }
+
+    /// Puts a stage at a size; the answer is what that adds to the delay.
+    fn put_size(&mut self, p: usize, k: u8, weight: u64, driven: u64) -> u64 {
+        let size = &self.net.sizes[usize::from(k)];
+        self.x[p] = k;
+        self.loads[p] = word(size, 8);
+        weight * (word(size, 4) * (word(size, 12) + driven))
+    }
+
+    /// Puts a segment at a width; the answer is what that adds to the delay.
+    fn put_width(&mut self, p: usize, k: u8, weight: u64, length: u64, driven: u64) -> u64 {
+        let row = &self.net.widths[usize::from(k)];
+        let own = word(row, 8) * length;
+        self.x[p] = k;
+        self.loads[p] = own + driven;
+        weight * (word(row, 4) * length * (own + 2 * driven))
+    }
+
+    /// Takes every sizing that has the indices of x from `left` on.
+    fn places_before<const RUNS: bool>(&mut self, mut left: usize, mut added: u64) {
+        let stages = self.net.stages.len();
+        while RUNS && left > 0 && self.lower[left - 1] == self.upper[left - 1] {
+            left -= 1;
+            let (k, weight) = (self.lower[left], self.weights[left]);
+            added += if left < stages {
+                self.put_size(left, k, weight, self.driven_by_stage(left))
+            } else {
+                let i = left - stages;
+                let segment = &self.net.segments[i];
+                self.put_width(left, k, weight, word(segment, 4), self.driven_by_segment(segment, i))
+            };
+        }
+        if left == 0 {
+            self.found.keep(self.x, added);
+            return;
+        }
+        let p = left - 1;
+        let weight = self.weights[p];
+        if p < stages {
+            let driven = self.driven_by_stage(p);
+            for k in self.lower[p]..=self.upper[p] {
+                let step = self.put_size(p, k, weight, driven);
+                self.places_before::<RUNS>(p, added + step);
+            }
+        } else {
+            let i = p - stages;
+            let segment = &self.net.segments[i];
+            let driven = self.driven_by_segment(segment, i);
+            let length = word(segment, 4);
+            for k in self.lower[p]..=self.upper[p] {
+                let step = self.put_width(p, k, weight, length, driven);
+                self.places_before::<RUNS>(p, added + step);
+            }
+        }
+    }
+}
+
+/// The search that evaluates the whole delay at each sizing between the bounds.
+fn search_whole(net: &Net, links: &Links, lower: &[u8], upper: &[u8], x: &mut [u8], found: &mut Found) {
+    x.copy_from_slice(lower);
+    loop {
+        found.keep(x, net.delay::<false>(links, x).0);
+        let Some(p) = (0..x.len()).find(|&p| x[p] < upper[p]) else {
+            return;
+        };
+        x[p] += 1;
+        x[..p].copy_from_slice(&lower[..p]);
+    }
+}
+
+/// Questions 15 and 16.
+fn check_sizing(net: &Net, sizing: &[u8]) -> Result<(), usize> {
+    if sizing.len() < net.places() {
+        return Err(15);
+    }
+    let (sizes, widths) = sizing.split_at(net.stages.len());
+    let allowed = |k: &u8, low: u8, high: u8| low <= *k && *k <= high;
+    if !sizes.iter().zip(net.stages).all(|(k, r)| allowed(k, r[2], r[3]))
+        || !widths.iter().zip(net.segments).all(|(k, r)| allowed(k, r[13], r[14]))
+    {
+        return Err(16);
+    }
+    Ok(())
+}
+
+/// Delay and load figure of a sizing, or the number of the first question that fails.
+fn measure_by<const PASS: bool>(job: &[u8], sizing: &[u8]) -> Result<(u64, u64), usize> {
+    let mut links = Links::new();
+    let net = check(job, &mut links)?;
+    check_sizing(&net, sizing)?;
+    let sizing = &sizing[..net.places()];
+    let (delay, tree) = net.delay::<PASS>(&links, sizing);
+    Ok((delay, tree + net.gates(&sizing[..net.stages.len()])))
+}
+
+/// Measures as (a).
+#[inline(never)]
+pub fn measure(job: &[u8], sizing: &[u8]) -> Result<(u64, u64), usize> {
+    measure_by::<false>(job, sizing)
+}
+
+/// Measures as (c).
+#[inline(never)]
+pub fn measure_fastest(job: &[u8], sizing: &[u8]) -> Result<(u64, u64), usize> {
+    measure_by::<true>(job, sizing)
+}
+
+/// The best index at a place, or the number of the first question that fails.
+#[cfg(test)]
+pub fn refine(job: &[u8], sizing: &[u8], place: usize, side: Side) -> Result<u8, usize> {
+    let mut links = Links::new();
+    let net = check(job, &mut links)?;
+    check_sizing(&net, sizing)?;
+    let places = net.places();
+    if places <= place {
+        return Err(17);
+    }
+    let mut held = [0; PLACES];
+    let x = &mut held[..places];
+    x.copy_from_slice(&sizing[..places]);
+    net.settle::<false>(&links, x, place, side);
+    Ok(x[place])
+}
+
+fn room(lower: &[u8], upper: &[u8]) -> Option<u64> {
+    lower.iter().zip(upper).try_fold(1, |room, (&a, &b)| {
+        Some(room * (u64::from(b - a) + 1)).filter(|&room| room <= ROOM)
+    })
+}
+
+fn write_reply(reply: &mut [u8], delay: u64, lower: &[u8], upper: &[u8], lean: &[u8], wide: &[u8]) {
+    let (records, _) = reply.as_chunks_mut::<8>();
+    let (first, records) = records.split_first_mut().expect("the reply has a first record");
+    *first = delay.to_le_bytes();
+    for (p, record) in records[..lower.len()].iter_mut().enumerate() {
+        *record = [lower[p], upper[p], lean[p], wide[p], 0, 0, 0, 0];
+    }
+}
+
+fn size_by(job: &[u8], reply: &mut [u8], way: Way) -> usize {
+    let mut links = Links::new();
+    let net = match check(job, &mut links) {
+        Ok(net) => net,
+        Err(number) => return number,
+    };
+    let places = net.places();
+    if reply.len() < 8 * (1 + places) {
+        return 12;
+    }
+    let (mut lower, mut upper) = ([0; PLACES], [0; PLACES]);
+    let (lower, upper) = (&mut lower[..places], &mut upper[..places]);
+    if way == Way::Fastest {
+        net.bound::<true>(&links, lower, Side::Below);
+        net.bound::<true>(&links, upper, Side::Above);
+    } else {
+        net.bound::<false>(&links, lower, Side::Below);
+        net.bound::<false>(&links, upper, Side::Above);
+    }
+    if !lower.iter().zip(upper.iter()).all(|(a, b)| a <= b) {
+        return 13;
+    }
+    if room(lower, upper).is_none() {
+        write_reply(reply, u64::MAX, lower, upper, &[255; PLACES], &[255; PLACES]);
+        return 14;
+    }
+    let (mut x, mut lean, mut wide) = ([0; PLACES], [0; PLACES], [0; PLACES]);
+    let (x, lean, wide) = (&mut x[..places], &mut lean[..places], &mut wide[..places]);
+    let mut found = Found {
+        least: u64::MAX,
+        lean,
+        wide,
+    };
+    if way == Way::WholeDelays {
+        search_whole(&net, &links, lower, upper, x, &mut found);
+    } else {
+        let (mut weights, mut loads) = ([0; PLACES], [0; PLACES]);
+        let (weights, loads) = (&mut weights[..places], &mut loads[..places]);
+        net.weigh(&links, weights);
+        let mut search = Search {
+            net,
+            links: &links,
+            weights,
+            lower,
+            upper,
+            x,
+            loads,
+            found: &mut found,
+        };
+        if way == Way::Fastest {
+            search.places_before::<true>(places, 0);
+        } else {
+            search.places_before::<false>(places, 0);
+        }
+    }
+    write_reply(reply, found.least, lower, upper, found.lean, found.wide);
+    0
+}
+
+/// Sizes as (a).
+#[inline(never)]
+pub fn size(job: &[u8], reply: &mut [u8]) -> usize {
+    size_by(job, reply, Way::AsLibrary)
+}
+
+/// Sizes as (b).
+#[inline(never)]
+pub fn size_by_whole_delays(job: &[u8], reply: &mut [u8]) -> usize {
+    size_by(job, reply, Way::WholeDelays)
+}
+
+/// Sizes as (c).
+#[inline(never)]
+pub fn size_fastest(job: &[u8], reply: &mut [u8]) -> usize {
+    size_by(job, reply, Way::Fastest)
+}
+
+/// The bounds of a job that passes the questions.
+pub fn bounds(job: &[u8]) -> Result<(Vec<u8>, Vec<u8>), usize> {
+    let mut links = Links::new();
+    let net = check(job, &mut links)?;
+    let (mut lower, mut upper) = (vec![0; net.places()], vec![0; net.places()]);
+    net.bound::<true>(&links, &mut lower, Side::Below);
+    net.bound::<true>(&links, &mut upper, Side::Above);
+    Ok((lower, upper))
+}
