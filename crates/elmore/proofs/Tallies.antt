@@ -17,16 +17,16 @@ use Rattle.links.proofs.Siblings.{siblings-none, siblings-branches, siblings-st
 use Rattle.elmore.specs.declared.Segment.{Segment}
 use Rattle.elmore.specs.declared.Part.{Part}
 use Rattle.elmore.specs.Ready.{Ready}
-use Rattle.elmore.specs.Step.{Fields, lag, under, RoomBehind, Behind, RoomJoined, Joined}
+use Rattle.elmore.specs.Step.{Fields, Empty, lag, under, RoomBehind, Behind, RoomJoined, Joined}
 use Rattle.elmore.specs.Tally.{Tally}
 
 -- past the last segment
-pub none-tally : {net : Net} {x : List ℕ} (j : ℕ) → j ≡ net .segments → Tally net x siblings j record { weight = 0; load = record { 0 = 0 }; delay = record { 0 = 0 } }
-none-tally {net} {x} j e =
+pub none-tally : {net : Net} {x : List ℕ} (j : ℕ) → j ≡ net .segments → (r : Part) → Empty r → Tally net x siblings j r
+none-tally {net} {x} j e r n =
     record {
-      weight = sym (siblings-none net (net .weight) j e);
-      load = sym (siblings-none net (ownLoad net x) j e);
-      delay = sym (siblings-none net (ownDelay net x) j e);
+      weight = n .weight ∙ sym (siblings-none net (net .weight) j e);
+      load = n .load ∙ sym (siblings-none net (ownLoad net x) j e);
+      delay = n .delay ∙ sym (siblings-none net (ownDelay net x) j e);
     }
 
 module _ {c : Counts} {job x : List ℕ} (ready : Ready c job x) where
@@ -102,6 +102,15 @@ module _ {c : Counts} {job x : List ℕ} (ready : Ready c job x) where
           load = omega (arith, siblings-step net (o .parents) (ownLoad net x) j i h f);
           delay = omega (arith, siblings-step net (o .parents) (ownDelay net x) j i h f);
         }
+
+  -- the last of its siblings is all of them from it on
+  pub last-tally : (j i : ℕ) → j < net .segments → First net (net .parent j) (suc j) i → i ≡ net .segments → (b : Part) → Tally net x branch j b → Tally net x siblings j b
+  last-tally j i h f e b t =
+      record {
+        weight = omega (arith, t .weight, siblings-step net (o .parents) (net .weight) j i h f, siblings-none net (net .weight) i e);
+        load = omega (arith, t .load, siblings-step net (o .parents) (ownLoad net x) j i h f, siblings-none net (ownLoad net x) i e);
+        delay = omega (arith, t .delay, siblings-step net (o .parents) (ownDelay net x) j i h f, siblings-none net (ownDelay net x) i e);
+      }
 
   -- the whole tree, behind stages that contribute d
   module _ (tree : Part) (t : Tally net x branches 0 tree) (d : ℕ) (e : d ≡ stagesDelay net x) where

@@ -9,7 +9,7 @@ ghost use Rattle.net.specs.Net.{netBy};
 ghost use Rattle.net.specs.Delay.{branch as branchOf, branches as branchesOf, branchesLoad, stageLoad, stageDelay, stagesDelay, gatesLoad, delay as delayOf};
 ghost use Rattle.links.specs.Links.{Linked, siblings};
 ghost use Rattle.elmore.specs.Ready.{Ready};
-ghost use Rattle.elmore.specs.Step.{Fields, lag, RoomCharged, RoomBehind, Behind, RoomJoined, Joined};
+ghost use Rattle.elmore.specs.Step.{Fields, Empty, lag, RoomCharged, RoomBehind, Behind, RoomJoined, Joined};
 ghost use Rattle.elmore.specs.Tally.{Tally, FiguresOf};
 
 // A segment with its wire at the sizing's width.
@@ -85,7 +85,18 @@ fn joined(a: Part, b: Part) -> Part
     }
 }
 
-// Segment i and all below it.
+// No part of the tree.
+fn nothing() -> Part
+    ensures { λ r. ⌜ Empty r ⌝ }
+{
+    Part {
+        weight: 0,
+        load: Capacitance(0),
+        delay: Delay(0),
+    }
+}
+
+// Segment i and all below it. Where nothing is below it no call is made, because half of a tree's segments are such.
 fn branch(
     job: &[u8],
     counts: Counts,
@@ -101,6 +112,9 @@ fn branch(
 {
     let s = sized(job, counts, sizing, i);
     let child = first[i + 1];
+    if child == counts.segments {
+        return behind(s, nothing());
+    }
     behind(s, branches(job, counts, first, next, sizing, child))
 }
 
@@ -119,14 +133,13 @@ fn branches(
     ensures { λ r. ⌜ Tally (netBy counts (now (job .entry))) (now (sizing .entry)) siblings j r ⌝ }
 {
     if j == counts.segments {
-        return Part {
-            weight: 0,
-            load: Capacitance(0),
-            delay: Delay(0),
-        };
+        return nothing();
     }
     let head = branch(job, counts, first, next, sizing, j);
     let sibling = next[j];
+    if sibling == counts.segments {
+        return head;
+    }
     let rest = branches(job, counts, first, next, sizing, sibling);
     joined(head, rest)
 }

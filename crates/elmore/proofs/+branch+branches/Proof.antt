@@ -5,7 +5,7 @@ use native.Mathlib.Omega.{arith}
 use borrow.Author.Needs.{needs}
 use Rattle.net.proofs.Questions.{ordered}
 use Rattle.links.proofs.Siblings.{first-behind}
-use Rattle.elmore.proofs.Tallies.{behind-room, behind-tally, joined-room, joined-tally, none-tally}
+use Rattle.elmore.proofs.Tallies.{behind-room, behind-tally, joined-room, joined-tally, last-tally, none-tally}
 use borrow.Fn.Kinds.{In}
 use borrow.Fn.PlainCycle.{Measures, is, falls, and}
 use Rattle.elmore.proofs.branch.Reads as branch
@@ -16,6 +16,7 @@ use Rattle.elmore.proofs.branches.Kinds as branches-kinds
 use Rattle.elmore.proofs.+branch+branches.Lts-branches as branches-lts
 use Rattle.elmore.proofs.behind.Reads as behind-reads
 use Rattle.elmore.proofs.joined.Reads as joined-reads
+use Rattle.elmore.proofs.nothing.Reads as nothing-reads
 use Rattle.elmore.proofs.sized.Reads as sized-reads
 use Rattle.elmore.proofs.+branch+branches.{statement}
 use Rattle.elmore.proofs.+branch+branches.Tie.{close}
@@ -41,10 +42,10 @@ branches-below t =
 
 -- what each callee asks and tells
 abbrev branch-claims : ℕ → branch-lts.Claims
-branch-claims t = (sized-reads.Asked, sized-reads.Learnt, branches-below t, branches.Post, behind-reads.Asked, behind-reads.Learnt)
+branch-claims t = (sized-reads.Asked, sized-reads.Learnt, nothing-reads.Asked, nothing-reads.Learnt, behind-reads.Asked, behind-reads.Learnt, branches-below t, branches.Post)
 
 abbrev branches-claims : ℕ → branches-lts.Claims
-branches-claims t = (branch-below t, branch.Post, branches-below t, branches.Post, joined-reads.Asked, joined-reads.Learnt)
+branches-claims t = (nothing-reads.Asked, nothing-reads.Learnt, branch-below t, branch.Post, branches-below t, branches.Post, joined-reads.Asked, joined-reads.Learnt)
 
 branch-sized-requires : (t : ℕ) → branch-lts.Need-sized-requires (branch-claims t) (branch-at t) branch.Post
 branch-sized-requires t c κs = search needs
@@ -58,32 +59,55 @@ branch-mul-child t c = search needs
 branch-shared-slice-read-child : (t : ℕ) → branch-lts.Need-shared-slice-read-child (branch-claims t) (branch-at t) branch.Post
 branch-shared-slice-read-child t c = search needs
 
+-- where nothing is below it
+branch-nothing-requires : (t : ℕ) → branch-lts.Need-nothing-requires (branch-claims t) (branch-at t) branch.Post
+branch-nothing-requires t c κs = search needs
+
+branch-behind-requires : (t : ℕ) → branch-lts.Need-behind-requires (branch-claims t) (branch-at t) branch.Post
+branch-behind-requires t c κs =
+    let b = c .before .before .before .before .before .before .before .before .before in
+    let a = b .args in
+    let r = b .pre .1 .0 in
+    behind-room r (a .i) _ (b .pre .1 .1 .1) (b .pre .1 .1 .0 .firsts (a .i + 1) (omega arith))
+    _ _ (c .before .before .before .before .sized .ensures) (none-tally _ (omega arith) _ (c .nothing .ensures))
+
+branch-returns : (t : ℕ) → branch-lts.Need-returns (branch-claims t) (branch-at t) branch.Post
+branch-returns t c =
+    let b = c .before .before .before .before .before .before .before .before .before .before in
+    let a = b .args in
+    let r = b .pre .1 .0 in
+    behind-tally r (a .i) _ (b .pre .1 .1 .1) (b .pre .1 .1 .0 .firsts (a .i + 1) (omega arith))
+    _ _ (c .before .before .before .before .before .sized .ensures) (none-tally _ (omega arith) _ (c .before .nothing .ensures)) _ (c .behind .ensures)
+
 branch-branches-requires : (t : ℕ) → branch-lts.Need-branches-requires (branch-claims t) (branch-at t) branch.Post
 branch-branches-requires t c κs =
-    let b = c .before .before .before .before .before .before in
+    let b = c .before .before .before .before .before .before .before .before in
     let a = b .args in
     let r = b .pre .1 .0 in
     let f = b .pre .1 .1 .0 .firsts (a .i + 1) (omega arith) in
     (omega (arith, first-behind _ (ordered (r .checked) .parents) (a .i + 1) _ (omega arith) f), (r, (b .pre .1 .1 .0, f .within)))
 
-branch-behind-requires : (t : ℕ) → branch-lts.Need-behind-requires (branch-claims t) (branch-at t) branch.Post
-branch-behind-requires t c κs =
-    let b = c .before .before .before .before .before .before .before in
+branch-behind-requires-2 : (t : ℕ) → branch-lts.Need-behind-requires-2 (branch-claims t) (branch-at t) branch.Post
+branch-behind-requires-2 t c κs =
+    let b = c .before .before .before .before .before .before .before .before .before in
     let a = b .args in
     let r = b .pre .1 .0 in
     behind-room r (a .i) _ (b .pre .1 .1 .1) (b .pre .1 .1 .0 .firsts (a .i + 1) (omega arith))
-    _ _ (c .before .before .sized .ensures) (c .branches .ensures)
+    _ _ (c .before .before .before .before .sized .ensures) (c .branches .ensures)
 
-branch-returns : (t : ℕ) → branch-lts.Need-returns (branch-claims t) (branch-at t) branch.Post
-branch-returns t c =
-    let b = c .before .before .before .before .before .before .before .before in
+branch-returns-2 : (t : ℕ) → branch-lts.Need-returns-2 (branch-claims t) (branch-at t) branch.Post
+branch-returns-2 t c =
+    let b = c .before .before .before .before .before .before .before .before .before .before in
     let a = b .args in
     let r = b .pre .1 .0 in
     behind-tally r (a .i) _ (b .pre .1 .1 .1) (b .pre .1 .1 .0 .firsts (a .i + 1) (omega arith))
-    _ _ (c .before .before .before .sized .ensures) (c .before .branches .ensures) _ (c .behind .ensures)
+    _ _ (c .before .before .before .before .before .sized .ensures) (c .before .branches .ensures) _ (c .behind2 .ensures)
+
+branches-nothing-requires : (t : ℕ) → branches-lts.Need-nothing-requires (branches-claims t) (branches-at t) branches.Post
+branches-nothing-requires t c κs = search needs
 
 branches-returns : (t : ℕ) → branches-lts.Need-returns (branches-claims t) (branches-at t) branches.Post
-branches-returns t c = let b = c .before .before .before .before .before .before in none-tally (b .args .j) (omega arith)
+branches-returns t c = let b = c .before .before .before .before .before .before .before in none-tally (b .args .j) (omega arith) _ (c .nothing .ensures)
 
 branches-branch-requires : (t : ℕ) → branches-lts.Need-branch-requires (branches-claims t) (branches-at t) branches.Post
 branches-branch-requires t c κs =
@@ -96,9 +120,18 @@ branches-mul-sibling t c = search needs
 branches-shared-slice-read-sibling : (t : ℕ) → branches-lts.Need-shared-slice-read-sibling (branches-claims t) (branches-at t) branches.Post
 branches-shared-slice-read-sibling t c = search needs
 
+-- where it has no sibling after it
+branches-returns-2 : (t : ℕ) → branches-lts.Need-returns-2 (branches-claims t) (branches-at t) branches.Post
+branches-returns-2 t c =
+    let b = c .before .before .before .before .before .before .before .before .before .before in
+    let a = b .args in
+    let r = b .pre .1 .0 in
+    let l : a .j < a .counts .segments = omega arith in
+    last-tally r (a .j) _ l (b .pre .1 .1 .0 .nexts (a .j) l) (omega arith) _ (c .before .before .before .branch .ensures)
+
 branches-branches-requires : (t : ℕ) → branches-lts.Need-branches-requires (branches-claims t) (branches-at t) branches.Post
 branches-branches-requires t c κs =
-    let b = c .before .before .before .before .before .before .before .before in
+    let b = c .before .before .before .before .before .before .before .before .before .before in
     let a = b .args in
     let r = b .pre .1 .0 in
     let f = b .pre .1 .1 .0 .nexts (a .j) (omega arith) in
@@ -106,21 +139,21 @@ branches-branches-requires t c κs =
 
 branches-joined-requires : (t : ℕ) → branches-lts.Need-joined-requires (branches-claims t) (branches-at t) branches.Post
 branches-joined-requires t c κs =
-    let b = c .before .before .before .before .before .before .before .before .before in
+    let b = c .before .before .before .before .before .before .before .before .before .before .before in
     let a = b .args in
     let r = b .pre .1 .0 in
     let l : a .j < a .counts .segments = omega arith in
     joined-room r (a .j) _ l (b .pre .1 .1 .0 .nexts (a .j) l)
-    _ _ (c .before .before .branch .ensures) (c .branches .ensures)
+    _ _ (c .before .before .before .before .branch .ensures) (c .branches .ensures)
 
-branches-returns-2 : (t : ℕ) → branches-lts.Need-returns-2 (branches-claims t) (branches-at t) branches.Post
-branches-returns-2 t c =
-    let b = c .before .before .before .before .before .before .before .before .before .before in
+branches-returns-3 : (t : ℕ) → branches-lts.Need-returns-3 (branches-claims t) (branches-at t) branches.Post
+branches-returns-3 t c =
+    let b = c .before .before .before .before .before .before .before .before .before .before .before .before in
     let a = b .args in
     let r = b .pre .1 .0 in
     let l : a .j < a .counts .segments = omega arith in
     joined-tally r (a .j) _ l (b .pre .1 .1 .0 .nexts (a .j) l)
-    _ _ (c .before .before .before .branch .ensures) (c .before .branches .ensures) _ (c .joined .ensures)
+    _ _ (c .before .before .before .before .before .branch .ensures) (c .before .branches .ensures) _ (c .joined .ensures)
 
 pub +branch+branches-spec : {M : Type 1} → statement M
 +branch+branches-spec = close μ-branch μ-branches (λ t. branch-lts.spec (branch-claims t)
@@ -130,16 +163,21 @@ pub +branch+branches-spec : {M : Type 1} → statement M
     (branch-add-child t)
     (branch-mul-child t)
     (branch-shared-slice-read-child t)
-    (branch-branches-requires t)
+    (branch-nothing-requires t)
     (branch-behind-requires t)
-    (branch-returns t))
+    (branch-returns t)
+    (branch-branches-requires t)
+    (branch-behind-requires-2 t)
+    (branch-returns-2 t))
     λ t. branches-lts.spec (branches-claims t)
     (branches-at t)
     branches.Post
+    (branches-nothing-requires t)
     (branches-returns t)
     (branches-branch-requires t)
     (branches-mul-sibling t)
     (branches-shared-slice-read-sibling t)
+    (branches-returns-2 t)
     (branches-branches-requires t)
     (branches-joined-requires t)
-    (branches-returns-2 t)
+    (branches-returns-3 t)
