@@ -1,29 +1,8 @@
 //! The library through its C interface, behind safe functions.
 
-use crate::calls::{Call, Outcome};
+use numlejka::c::{numlejka_choose, numlejka_measure, numlejka_refine, numlejka_size};
 
-// The one place where the tests declare the C interface.
-unsafe extern "C" {
-    fn numlejka_measure(
-        job: *const u8,
-        job_len: usize,
-        sizing: *const u8,
-        sizing_len: usize,
-        delay: *mut u64,
-        load: *mut u64,
-    ) -> usize;
-    fn numlejka_refine(
-        job: *const u8,
-        job_len: usize,
-        sizing: *const u8,
-        sizing_len: usize,
-        place: usize,
-        above: u8,
-        best: *mut u8,
-    ) -> usize;
-    fn numlejka_choose(job: *const u8, job_len: usize, x: *const u8, x_len: usize, y: *const u8, y_len: usize) -> usize;
-    fn numlejka_size(job: *const u8, job_len: usize, reply: *mut u8, reply_len: usize) -> usize;
-}
+use crate::calls::{Call, Outcome};
 
 /// What the parameters hold before a call, so that a refusal that writes is seen.
 const DELAY_BEFORE: u64 = 0x0123_4567_89ab_cdef;

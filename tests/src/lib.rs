@@ -4,7 +4,7 @@ pub mod batches;
 pub mod calls;
 pub mod damage;
 pub mod generate;
-#[cfg(library_present)]
+#[cfg(feature = "library")]
 pub mod interface;
 pub mod limits;
 pub mod plan;

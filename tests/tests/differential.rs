@@ -1,5 +1,5 @@
-//! The library against the reference, call by call; nothing is compared when the library is not there.
-#![cfg(library_present)]
+//! The library against the reference, call by call; with the feature `library` only.
+#![cfg(feature = "library")]
 
 use numlejka_tests::batches::{
     Counts, MOST_ALLOWED, damaged_calls, large_calls, largest_calls, limit_calls, operation, room_calls, small_calls,
@@ -23,7 +23,7 @@ fn compare(counts: &mut Counts, call: &Call) {
     let (want, got) = (expected(call), run(call));
     assert!(
         want == got,
-        "the library differs\n  expected {} {}\n  got      {} {}\n  again: CALL='{}' cargo test --release again",
+        "the library differs\n  expected {} {}\n  got      {} {}\n  again: CALL='{}' cargo test --release --features library again",
         want.number,
         hex(&want.buffer),
         got.number,

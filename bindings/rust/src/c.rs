@@ -1,4 +1,4 @@
-//! The functions of the archive, as `include/numlejka.h` declares them.
+//! The functions of the archive, as `include/numlejka.h` declares them, for callers that lend their own buffers.
 
 extern "C" {
     pub fn numlejka_measure(

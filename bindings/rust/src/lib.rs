@@ -21,7 +21,7 @@
 //! assert_eq!(measure(&job, &[0]).unwrap_err().number, 15);
 //! ```
 
-mod c;
+pub mod c;
 
 use std::fmt;
 
