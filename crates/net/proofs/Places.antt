@@ -34,7 +34,7 @@ sumFrom-sum p (suc d) f =
     omega arith
 
 -- the terms from n on, each by its distance
-sum-split : (n m : ℕ) (f : ℕ → ℕ) → sum (n + m) f ≡ sum n f + sum m (λ i. f (n + i))
+pub sum-split : (n m : ℕ) (f : ℕ → ℕ) → sum (n + m) f ≡ sum n f + sum m (λ i. f (n + i))
 unfolding sum
 sum-split n zero f = rw (add-zero n) (sym (add-zero (sum n f)))
 sum-split n (suc m) f =

@@ -1,3 +1,9 @@
 pub mod LinkedSums
 pub mod Steps
 pub mod Weights
+pub mod Behind
+pub mod Held
+pub mod OnePlace
+pub mod Upstream
+pub mod Gathering
+pub mod Driving

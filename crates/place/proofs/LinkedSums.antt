@@ -1,4 +1,4 @@
--- Sums by the links: they are the sums over the branches, and so is the load that a place drives.
+-- Sums by the links: they are the sums over the branches.
 use mathlib.Core.Path.{_≡_, refl, sym, ap, _∙_}
 use mathlib.Core.Bool.{Bool, true, false, cond}
 use mathlib.Core.List.{List}
@@ -15,7 +15,7 @@ use Rattle.net.specs.Places.{drivenLoad, LoadsFrom}
 use Rattle.net.proofs.Places.{segment-load, stage-load}
 use Rattle.links.specs.Links.{Linked, siblings}
 use Rattle.links.proofs.Siblings.{siblings-none, siblings-step, siblings-branches, first-behind}
-use Rattle.place.specs.Partial.{linkedSum, nodeSum, drivenBy}
+use Rattle.place.specs.Partial.{linkedSum, nodeSum}
 
 module _ (net : Net) (next values : List ℕ) (rises : (i : ℕ) → i < net .segments → i < at next i) where
   -- as many steps as there are segments left are enough
@@ -75,42 +75,3 @@ module _ (net : Net) (falls : (i : ℕ) → i < net .segments → net .parent i 
       let b = first-behind net falls q (at first q) h f in
       linked-siblings (net .segments) (at first q) (f .within) (omega arith) (λ i a m. v i (omega arith) m)
       ∙ sym (siblings-branches net falls own q (at first q) h f)
-
--- The load that a place drives, from the loads of the places after it.
-module _ (net : Net) (falls : (i : ℕ) → i < net .segments → net .parent i ≤ i) (first next loads : List ℕ) (l : Linked net first next) (x : List ℕ) where
-  node-load : (q p : ℕ) → q ≤ net .segments → p ≤ net .stages + q → LoadsFrom net x p loads → nodeSum net first next loads q ≡ branchesLoad net x q
-  node-load q p h m a =
-      node-branches net falls first next loads l (ownLoad net x) q h (λ i b n. a .held (net .stages + i) (omega arith) (omega arith) ∙ segment-load net x i)
-
-  pub driven-is : (p : ℕ) → p < places net → LoadsFrom net x (suc p) loads → drivenBy net first next loads p ≡ drivenLoad net x p
-  unfolding drivenBy drivenLoad stageLoad
-  driven-is p h a = go (ltb p (net .stages)) refl
-    where
-      stage : p < net .stages → (b : Bool) → eqb (suc p) (net .stages) ≡ b
-          → cond b (nodeSum net first next loads 0) (at loads (suc p)) ≡ cond b (branchesLoad net x 0) (net .gate (at x (suc p)))
-      stage m true e = node-load 0 (suc p) (omega arith) (omega arith) a
-      stage m false e =
-          let n : suc p < net .stages = omega (arith, eqb-false (suc p) (net .stages) e) in
-          a .held (suc p) (omega arith) (omega arith) ∙ stage-load net x (suc p) n
-
-      go : (b : Bool) → ltb p (net .stages) ≡ b
-          → cond b (cond (eqb (suc p) (net .stages)) (nodeSum net first next loads 0) (at loads (suc p))) (net .sink (p - net .stages) + nodeSum net first next loads (suc (p - net .stages)))
-          ≡ cond b (cond (eqb (suc p) (net .stages)) (branchesLoad net x 0) (net .gate (at x (suc p)))) (loadUnder net x (p - net .stages))
-      go true t = stage (ltb-true p (net .stages) t) (eqb (suc p) (net .stages)) refl
-      go false t =
-          let m = ltb-false p (net .stages) t in
-          ap (λ (s : ℕ). net .sink (p - net .stages) + s) (node-load (suc (p - net .stages)) (suc p) (omega arith) (omega arith) a)
-
--- By cases: the last stage, a stage before it, a segment.
-module _ (net : Net) (first next loads : List ℕ) where
-  pub driven-last : (s : ℕ) → s < net .stages → s + 1 ≡ net .stages → drivenBy net first next loads s ≡ nodeSum net first next loads 0
-  unfolding drivenBy
-  driven-last s h e = rw (lt-ltb s (net .stages) h, eq-eqb (suc s) (net .stages) (omega arith))
-
-  pub driven-stage : (s : ℕ) → s < net .stages → (s + 1 ≡ net .stages → ⊥) → drivenBy net first next loads s ≡ at loads (s + 1)
-  unfolding drivenBy
-  driven-stage s h n = rw (add-one s, lt-ltb s (net .stages) h, ne-eqb (suc s) (net .stages) (λ e. n (omega arith)))
-
-  pub driven-segment : (p : ℕ) → net .stages ≤ p → drivenBy net first next loads p ≡ net .sink (p - net .stages) + nodeSum net first next loads (p - net .stages + 1)
-  unfolding drivenBy
-  driven-segment p h = rw (le-ltb p (net .stages) h, add-one (p - net .stages))

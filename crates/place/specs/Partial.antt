@@ -19,15 +19,9 @@ linkedSum net next values (suc d) j = cond (ltb j (net .segments)) (at values (n
 abbrev pub nodeSum : Net → List ℕ → List ℕ → List ℕ → ℕ → ℕ
 nodeSum net first next values q = linkedSum net next values (net .segments) (at first q)
 
--- The load that place p drives, where `loads` has the loads of the places after it.
-unfoldable pub drivenBy : Net → List ℕ → List ℕ → List ℕ → ℕ → ℕ
-drivenBy net first next loads p =
-    cond (ltb p (net .stages)) (cond (eqb (suc p) (net .stages)) (nodeSum net first next loads 0) (at loads (suc p)))
-    (net .sink (p - net .stages) + nodeSum net first next loads (suc (p - net .stages)))
-
--- r is the step at place p to the index k, where it has the weight w and drives the load l.
-pub record StepOf (net : Net) (w p k l : ℕ) (r : PlaceStep) : Type 0 where
-  pub delay : r .delay .0 ≡ w * delayAt net p k l
+-- r is the step at place p to the index k, where it has the weight w, the weighted resistance u upstream, and drives the load l.
+pub record StepOf (net : Net) (w u p k l : ℕ) (r : PlaceStep) : Type 0 where
+  pub delay : r .delay .0 ≡ w * delayAt net p k l + u * loadAt net p k l
   pub load : r .load .0 ≡ loadAt net p k l
 
 -- `weights` has the weights of the places from p on.

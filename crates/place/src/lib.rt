@@ -2,16 +2,21 @@
 use net::Counts;
 use quantity::Capacitance;
 use quantity::Delay;
+use quantity::Resistance;
 ghost use mathlib.Core.Path.{_≡_};
 ghost use Prim.Native.Nat.{_+_, _*_, _^_, _<_, _≤_};
 ghost use lib.ListN.{length};
 ghost use Rattle.lattice.specs.Lists.{at};
+ghost use Rattle.lattice.specs.Space.{Allowed};
 ghost use Rattle.net.specs.Net.{netBy};
+ghost use Rattle.net.specs.Places.{placeWeight, loadAt};
+ghost use Rattle.net.specs.Sizings.{allowed};
 ghost use Rattle.net.specs.Checked.{Checked};
 ghost use Rattle.links.specs.Links.{Linked};
-ghost use Rattle.place.specs.Partial.{linkedSum, nodeSum, drivenBy, StepOf, WeightsFrom};
+ghost use Rattle.place.specs.Partial.{linkedSum, nodeSum, StepOf, WeightsFrom};
+ghost use Rattle.place.specs.Held.{hangsAt, sinkAt, slope as slopeOf, before, onward as onwardOf, DrivenFrom, UpstreamTo};
 
-// What a place adds at one of its indices: its part of the scaled delay, and the load that it shows.
+// What a place adds at one of its indices: its part of the scaled delay with what its load costs upstream, and the load that it shows.
 pub struct PlaceStep {
     pub delay: Delay,
     pub load: Capacitance,
@@ -40,51 +45,176 @@ fn linked_sum(
     sum
 }
 
-// The load that stage s drives.
-fn stage_load(
-    job: &[u8],
-    counts: Counts,
-    first: &[usize],
-    next: &[usize],
-    loads: &[u64],
-    s: usize,
-) -> Capacitance
-    requires { ⌜ Linked (netBy counts (now job)) (now first) (now next) ⌝ }
-    requires { ⌜ counts .stages + counts .segments ≤ length (now loads) ⌝ }
-    requires { ⌜ s < counts .stages ⌝ }
-    requires { ⌜ drivenBy (netBy counts (now job)) (now first) (now next) (now loads) s < 2 ^ 63 ⌝ }
-    ensures { λ r. ⌜ r .0 ≡ drivenBy (netBy counts (now (job .entry))) (now (first .entry)) (now (next .entry)) (now (loads .entry)) s ⌝ }
-{
-    if s + 1 == counts.stages {
-        let root = first[0];
-        return Capacitance(linked_sum(job, counts, first, next, loads, root));
-    }
-    Capacitance(loads[s + 1])
-}
-
-// The load that place p drives, from the loads of the places after it.
-pub fn driven_load(
-    job: &[u8],
-    counts: Counts,
-    first: &[usize],
-    next: &[usize],
-    loads: &[u64],
-    p: usize,
-) -> Capacitance
+// The node that place p hangs at.
+pub fn hangs_at(job: &[u8], counts: Counts, p: usize) -> usize
     requires { ⌜ Checked counts (now job) ⌝ }
-    requires { ⌜ Linked (netBy counts (now job)) (now first) (now next) ⌝ }
-    requires { ⌜ counts .stages + counts .segments ≤ length (now loads) ⌝ }
     requires { ⌜ p < counts .stages + counts .segments ⌝ }
-    requires { ⌜ drivenBy (netBy counts (now job)) (now first) (now next) (now loads) p < 2 ^ 63 ⌝ }
-    ensures { λ r. ⌜ r .0 ≡ drivenBy (netBy counts (now (job .entry))) (now (first .entry)) (now (next .entry)) (now (loads .entry)) p ⌝ }
+    ensures { λ r. ⌜ (r ≡ hangsAt (netBy counts (now (job .entry))) p) × (r ≤ p) ⌝ }
 {
     if p < counts.stages {
-        return stage_load(job, counts, first, next, loads, p);
+        return p;
     }
-    let i = p - counts.stages;
-    let child = first[i + 1];
-    let under = Capacitance(linked_sum(job, counts, first, next, loads, child));
-    quantity::add_capacitance(job::sink(job, counts, i), under)
+    counts.stages + job::parent(job, counts, p - counts.stages)
+}
+
+// The sink at the far end of place p.
+fn sink_at(job: &[u8], counts: Counts, p: usize) -> Capacitance
+    requires { ⌜ Checked counts (now job) ⌝ }
+    requires { ⌜ p < counts .stages + counts .segments ⌝ }
+    ensures { λ r. ⌜ (r .0 ≡ sinkAt (netBy counts (now (job .entry))) p) × (r .0 ≤ 100000) ⌝ }
+{
+    if p < counts.stages {
+        return Capacitance(0);
+    }
+    job::sink(job, counts, p - counts.stages)
+}
+
+// The load that place p shows at the index k, where it drives the load `driven`.
+fn shown_load(job: &[u8], counts: Counts, p: usize, k: u8, driven: Capacitance) -> Capacitance
+    requires { ⌜ Checked counts (now job) ⌝ }
+    requires { ⌜ (p < counts .stages + counts .segments) × (k ≤ netBy counts (now job) .highest p) × (driven .0 ≤ 12900000) ⌝ }
+    ensures { λ r. ⌜ r .0 ≡ loadAt (netBy counts (now (job .entry))) p k (driven .0) ⌝ }
+{
+    let index = job::index(k);
+    if p < counts.stages {
+        return job::gate(job, counts, index);
+    }
+    let wire = job::wire_at(job, counts, p - counts.stages, index);
+    quantity::add_capacitance(wire.capacitance, driven)
+}
+
+// What the places drive where free places show no load, in one pass from the last place to the first.
+pub fn drive(job: &[u8], counts: Counts, lower: &[u8], upper: &[u8], driven: &mut [u64; 68])
+    requires { ⌜ Checked counts (now job) ⌝ }
+    requires { ⌜ Allowed (allowed (netBy counts (now job))) (now lower) ⌝ }
+    requires { ⌜ counts .stages + counts .segments ≤ length (now upper) ⌝ }
+    requires { ⌜ counts .stages + counts .segments ≤ length (now driven) ⌝ }
+    ensures { λ r. ⌜ DrivenFrom (netBy counts (now (job .entry))) (now (lower .entry)) (now (upper .entry)) 0 (now (driven .exit)) ⌝ }
+{
+    let mut gathered = [0u64; 69];
+    let mut p = counts.stages + counts.segments;
+    while p > 0 {
+        p -= 1;
+        let behind = Capacitance(gathered[p + 1]);
+        let load = quantity::add_capacitance(sink_at(job, counts, p), behind);
+        driven[p] = load.0;
+        if lower[p] >= upper[p] {
+            let shown = shown_load(job, counts, p, lower[p], load);
+            let node = hangs_at(job, counts, p);
+            gathered[node] = gathered[node] + shown.0;
+        }
+    }
+}
+
+// What the delay of place p, of the weight `weight` and at the index k, grows by with each unit of the load that it drives.
+fn slope(job: &[u8], counts: Counts, weight: u64, p: usize, k: u8) -> Resistance
+    requires { ⌜ Checked counts (now job) ⌝ }
+    requires { ⌜ (p < counts .stages + counts .segments) × (k ≤ netBy counts (now job) .highest p) × (weight ≡ placeWeight (netBy counts (now job)) p) ⌝ }
+    ensures { λ r. ⌜ (r .0 ≡ slopeOf (netBy counts (now (job .entry))) p k) × (r .0 ≤ 6528000000) ⌝ }
+{
+    let index = job::index(k);
+    if p < counts.stages {
+        let driver = job::driver_resistance(job, counts, index);
+        return quantity::weighted_resistance(weight, driver);
+    }
+    let wire = job::wire_at(job, counts, p - counts.stages, index);
+    quantity::weighted_resistance(2 * weight, wire.resistance)
+}
+
+// What the delay grows by with each unit of load behind place a.
+fn onward(
+    job: &[u8],
+    counts: Counts,
+    weights: &[u64; 68],
+    lower: &[u8],
+    upper: &[u8],
+    upstream: &[u64; 68],
+    a: usize,
+) -> u64
+    requires { ⌜ Checked counts (now job) ⌝ }
+    requires { ⌜ WeightsFrom (netBy counts (now job)) 0 (now weights) ⌝ }
+    requires { ⌜ Allowed (allowed (netBy counts (now job))) (now lower) ⌝ }
+    requires { ⌜ counts .stages + counts .segments ≤ length (now upper) ⌝ }
+    requires { ⌜ (a < counts .stages + counts .segments) × (at (now upstream) a ≤ a * 6528000000) ⌝ }
+    ensures { λ r. ⌜ r ≡ onwardOf (netBy counts (now (job .entry))) (now (lower .entry)) (now (upper .entry)) (now (upstream .entry)) a ⌝ }
+{
+    if lower[a] < upper[a] {
+        return 0;
+    }
+    let own = slope(job, counts, weights[a], a, lower[a]);
+    if a < counts.stages {
+        return own.0;
+    }
+    own.0 + upstream[a]
+}
+
+// The weighted upstream resistance of place p, from those of the places before it.
+pub fn upstream_at(
+    job: &[u8],
+    counts: Counts,
+    weights: &[u64; 68],
+    lower: &[u8],
+    upper: &[u8],
+    upstream: &[u64; 68],
+    p: usize,
+) -> u64
+    requires { ⌜ Checked counts (now job) ⌝ }
+    requires { ⌜ WeightsFrom (netBy counts (now job)) 0 (now weights) ⌝ }
+    requires { ⌜ Allowed (allowed (netBy counts (now job))) (now lower) ⌝ }
+    requires { ⌜ counts .stages + counts .segments ≤ length (now upper) ⌝ }
+    requires { ⌜ p < counts .stages + counts .segments ⌝ }
+    requires { ⌜ UpstreamTo (netBy counts (now job)) (now lower) (now upper) p (now upstream) ⌝ }
+    ensures { λ r. ⌜ r ≡ before (onwardOf (netBy counts (now (job .entry))) (now (lower .entry)) (now (upper .entry)) (now (upstream .entry))) (hangsAt (netBy counts (now (job .entry))) p) ⌝ }
+{
+    let node = hangs_at(job, counts, p);
+    if node == 0 {
+        return 0;
+    }
+    onward(
+        job,
+        counts,
+        weights,
+        lower,
+        upper,
+        upstream,
+        node - 1,
+    )
+}
+
+// The weighted upstream resistances of the first n places.
+pub fn go_upstream(
+    job: &[u8],
+    counts: Counts,
+    weights: &[u64; 68],
+    lower: &[u8],
+    upper: &[u8],
+    upstream: &mut [u64; 68],
+    n: usize,
+)
+    requires { ⌜ Checked counts (now job) ⌝ }
+    requires { ⌜ WeightsFrom (netBy counts (now job)) 0 (now weights) ⌝ }
+    requires { ⌜ Allowed (allowed (netBy counts (now job))) (now lower) ⌝ }
+    requires { ⌜ counts .stages + counts .segments ≤ length (now upper) ⌝ }
+    requires { ⌜ n ≤ counts .stages + counts .segments ⌝ }
+    requires { ⌜ counts .stages + counts .segments ≤ length (now upstream) ⌝ }
+    ensures { λ r. ⌜ UpstreamTo (netBy counts (now (job .entry))) (now (lower .entry)) (now (upper .entry)) n (now (upstream .exit)) ⌝ }
+{
+    let mut p = 0;
+    while p < n {
+        upstream[p] = upstream_at(job, counts, weights, lower, upper, upstream, p);
+        p += 1;
+    }
+}
+
+// A step of the weighted delay `own` and the load `load`, which is charged through the resistance upstream too.
+fn charged_upstream(upstream: Resistance, own: Delay, load: Capacitance) -> PlaceStep
+    requires { ⌜ (upstream .0 ≤ 443904000000) × (own .0 ≤ 84864000000000000) × (load .0 ≤ 13000000) ⌝ }
+    ensures { λ r. ⌜ (r .delay .0 ≡ own .0 + upstream .0 * load .0) × (r .load .0 ≡ load .0) ⌝ }
+{
+    PlaceStep {
+        delay: quantity::add_delay(own, quantity::delay_through(upstream, load)),
+        load: load,
+    }
 }
 
 // The step of stage s to the size k, where it drives the load `driven`.
@@ -92,20 +222,19 @@ fn stage_step(
     job: &[u8],
     counts: Counts,
     weight: u64,
+    upstream: Resistance,
     s: usize,
     k: usize,
     driven: Capacitance,
 ) -> PlaceStep
     requires { ⌜ Checked counts (now job) ⌝ }
-    requires { ⌜ (s < counts .stages) × (k < counts .sizes) × (weight ≤ 32640) × (driven .0 ≤ 12900000) ⌝ }
-    ensures { λ r. ⌜ StepOf (netBy counts (now (job .entry))) weight s k (driven .0) r ⌝ }
+    requires { ⌜ (s < counts .stages) × (k < counts .sizes) × (weight ≤ 32640) × (upstream .0 ≤ 443904000000) × (driven .0 ≤ 12900000) ⌝ }
+    ensures { λ r. ⌜ StepOf (netBy counts (now (job .entry))) weight (upstream .0) s k (driven .0) r ⌝ }
 {
     let resistance = job::driver_resistance(job, counts, k);
     let charged = quantity::add_capacitance(job::output(job, counts, k), driven);
-    PlaceStep {
-        delay: quantity::weighted(weight, quantity::delay_through(resistance, charged)),
-        load: job::gate(job, counts, k),
-    }
+    let own = quantity::weighted(weight, quantity::delay_through(resistance, charged));
+    charged_upstream(upstream, own, job::gate(job, counts, k))
 }
 
 // The step of segment i to the width k, where it drives the load `driven`.
@@ -113,46 +242,54 @@ fn segment_step(
     job: &[u8],
     counts: Counts,
     weight: u64,
+    upstream: Resistance,
     i: usize,
     k: usize,
     driven: Capacitance,
 ) -> PlaceStep
     requires { ⌜ Checked counts (now job) ⌝ }
-    requires { ⌜ (i < counts .segments) × (k < counts .widths) × (weight ≤ 32640) × (driven .0 ≤ 12900000) ⌝ }
-    ensures { λ r. ⌜ StepOf (netBy counts (now (job .entry))) weight (counts .stages + i) k (driven .0) r ⌝ }
+    requires { ⌜ (i < counts .segments) × (k < counts .widths) × (weight ≤ 32640) × (upstream .0 ≤ 443904000000) × (driven .0 ≤ 12900000) ⌝ }
+    ensures { λ r. ⌜ StepOf (netBy counts (now (job .entry))) weight (upstream .0) (counts .stages + i) k (driven .0) r ⌝ }
 {
     let wire = job::wire_at(job, counts, i, k);
     let own = wire.capacitance;
     let resistance = wire.resistance;
     let charged = quantity::charged_twice(own, driven);
-    PlaceStep {
-        delay: quantity::weighted(weight, quantity::delay_through(resistance, charged)),
-        load: quantity::add_capacitance(own, driven),
-    }
+    let delay = quantity::weighted(weight, quantity::delay_through(resistance, charged));
+    charged_upstream(upstream, delay, quantity::add_capacitance(own, driven))
 }
 
-// The step of place p to the index k, where it has the weight `weight` and drives the load `driven`.
+// The step of place p to the index k, where it has the weight `weight`, the resistance `upstream` before it and the load `driven` behind it.
 pub fn step(
     job: &[u8],
     counts: Counts,
     weight: u64,
+    upstream: Resistance,
     p: usize,
     k: u8,
     driven: Capacitance,
 ) -> PlaceStep
     requires { ⌜ Checked counts (now job) ⌝ }
-    requires { ⌜ (p < counts .stages + counts .segments) × (k ≤ netBy counts (now job) .highest p) × (weight ≤ 32640) × (driven .0 ≤ 12900000) ⌝ }
-    ensures { λ r. ⌜ StepOf (netBy counts (now (job .entry))) weight p k (driven .0) r ⌝ }
+    requires { ⌜ (p < counts .stages + counts .segments) × (k ≤ netBy counts (now job) .highest p) × (weight ≤ 32640) × (upstream .0 ≤ 443904000000) × (driven .0 ≤ 12900000) ⌝ }
+    ensures { λ r. ⌜ StepOf (netBy counts (now (job .entry))) weight (upstream .0) p k (driven .0) r ⌝ }
 {
     let index = job::index(k);
     if p < counts.stages {
-        return stage_step(job, counts, weight, p, index, driven);
+        return stage_step(job, counts, weight, upstream, p, index, driven);
     }
-    segment_step(job, counts, weight, p - counts.stages, index, driven)
+    segment_step(
+        job,
+        counts,
+        weight,
+        upstream,
+        p - counts.stages,
+        index,
+        driven,
+    )
 }
 
 // The weight of the sinks at or below each segment's far end, from the last segment to the first.
-fn weigh_segments(job: &[u8], counts: Counts, first: &[usize], next: &[usize], weights: &mut [u64])
+fn weigh_segments(job: &[u8], counts: Counts, first: &[usize], next: &[usize], weights: &mut [u64; 68])
     requires { ⌜ Checked counts (now job) ⌝ }
     requires { ⌜ Linked (netBy counts (now job)) (now first) (now next) ⌝ }
     requires { ⌜ counts .stages + counts .segments ≤ length (now weights) ⌝ }
@@ -168,7 +305,7 @@ fn weigh_segments(job: &[u8], counts: Counts, first: &[usize], next: &[usize], w
 }
 
 // The weights of the stages, each twice that of all sinks, where those of the segments are known.
-fn weigh_stages(job: &[u8], counts: Counts, first: &[usize], next: &[usize], weights: &mut [u64])
+fn weigh_stages(job: &[u8], counts: Counts, first: &[usize], next: &[usize], weights: &mut [u64; 68])
     requires { ⌜ Checked counts (now job) ⌝ }
     requires { ⌜ Linked (netBy counts (now job)) (now first) (now next) ⌝ }
     requires { ⌜ WeightsFrom (netBy counts (now job)) (counts .stages) (now weights) ⌝ }
@@ -184,7 +321,7 @@ fn weigh_stages(job: &[u8], counts: Counts, first: &[usize], next: &[usize], wei
 }
 
 // The weights of all places.
-pub fn weigh(job: &[u8], counts: Counts, first: &[usize], next: &[usize], weights: &mut [u64])
+pub fn weigh(job: &[u8], counts: Counts, first: &[usize], next: &[usize], weights: &mut [u64; 68])
     requires { ⌜ Checked counts (now job) ⌝ }
     requires { ⌜ Linked (netBy counts (now job)) (now first) (now next) ⌝ }
     requires { ⌜ counts .stages + counts .segments ≤ length (now weights) ⌝ }

@@ -33,6 +33,14 @@ pub fn wire_capacitance(row: Capacitance, length: u64) -> Capacitance
     Capacitance(along(row.0, length))
 }
 
+// A resistance as often as the weight says: what a weighted delay grows by with each unit of load.
+pub fn weighted_resistance(weight: u64, r: Resistance) -> Resistance
+    requires { ⌜ weight * r .0 < 2 ^ 63 ⌝ }
+    ensures { λ s. ⌜ (s .0 ≡ weight * r .0) × (s .0 < 2 ^ 63) ⌝ }
+{
+    Resistance(weight * r.0)
+}
+
 // Two capacitances at one node.
 pub fn add_capacitance(a: Capacitance, b: Capacitance) -> Capacitance
     requires { ⌜ a .0 + b .0 < 2 ^ 63 ⌝ }

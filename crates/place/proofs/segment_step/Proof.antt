@@ -1,4 +1,5 @@
 -- `place::segment_step` meets its contract: each product fits, and is the definition.
+use mathlib.Core.Path.{_∙_}
 use borrow.Author.Needs.{needs}
 use native.Mathlib.Omega.{arith}
 use Rattle.net.specs.Net.{netBy}
@@ -34,10 +35,19 @@ weighted-requires c κs =
 add-capacitance-requires : tie.Need-add-capacitance-requires
 add-capacitance-requires c κs = search needs
 
+charged-upstream-requires : tie.Need-charged-upstream-requires
+charged-upstream-requires c κs =
+    let b = c .before .before .before .before .before .before .before .before in
+    let e = c .before .before .before .before .before .before .wire-at .ensures in
+    let o = wire-small (b .pre .0) (b .args .i) (b .args .k) (omega arith) (omega arith) in
+    let d = through-small (c .before .before .before .before .before .before .wire-at .result .resistance .0) (c .before .before .before .charged-twice .result .0) (omega arith) (omega arith) in
+    let w = weighted-small (b .args .weight) (c .before .before .delay-through .result .0) (omega arith) (omega arith) in
+    (omega arith, omega arith, omega (arith, c .add-capacitance .ensures))
+
 returns : tie.Need-returns
 returns c =
-    let b = c .before .before .before .before .before .before .before .before in
-    segment-step-of (netBy (b .args .counts) (b .args .job .now)) (b .args .weight) (b .args .k) (b .args .driven .0) _ (b .args .i) (cc) (cc)
+    let b = c .before .before .before .before .before .before .before .before .before in
+    segment-step-of (netBy (b .args .counts) (b .args .job .now)) (b .args .weight) (b .args .upstream .0) (b .args .k) (b .args .driven .0) _ (b .args .i) (c .charged-upstream .ensures .1 ∙ c .before .add-capacitance .ensures .0 ∙ cc (c .before .before .before .before .before .before .before .wire-at .ensures .capacitance)) (c .charged-upstream .ensures .0 ∙ cc (c .before .before .weighted .ensures .0, c .before .before .before .delay-through .ensures .0, c .before .before .before .before .charged-twice .ensures .0, c .before .add-capacitance .ensures .0, c .before .before .before .before .before .before .before .wire-at .ensures .resistance, c .before .before .before .before .before .before .before .wire-at .ensures .capacitance))
 
 pub segment-step-spec : {M : Type 1} → statement M
 segment-step-spec =
@@ -48,4 +58,5 @@ segment-step-spec =
     delay-through-requires
     weighted-requires
     add-capacitance-requires
+    charged-upstream-requires
     returns)

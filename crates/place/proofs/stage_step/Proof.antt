@@ -39,10 +39,20 @@ weighted-requires c κs =
 gate-requires : tie.Need-gate-requires
 gate-requires c κs = search needs
 
+charged-upstream-requires : tie.Need-charged-upstream-requires
+charged-upstream-requires c κs =
+    let b = c .before .before .before .before .before .before .before in
+    let e = c .before .before .before .before .output .ensures in
+    let f = c .before .before .before .before .before .driver-resistance .ensures in
+    let o = b .pre .0 .drivers (b .args .k) (omega arith) in
+    let d = through-small (c .before .before .before .before .before .driver-resistance .result .0) (c .before .before .before .add-capacitance .result .0) (omega arith) (omega arith) in
+    let w = weighted-small (b .args .weight) (c .before .before .delay-through .result .0) (omega arith) (omega arith) in
+    (omega arith, omega arith, omega (arith, c .gate .ensures))
+
 returns : tie.Need-returns
 returns c =
-    let b = c .before .before .before .before .before .before .before in
-    stage-step-of (netBy (b .args .counts) (b .args .job .now)) (b .args .weight) (b .args .k) (b .args .driven .0) _ (b .args .s) (omega arith) (cc) (cc)
+    let b = c .before .before .before .before .before .before .before .before in
+    stage-step-of (netBy (b .args .counts) (b .args .job .now)) (b .args .weight) (b .args .upstream .0) (b .args .k) (b .args .driven .0) _ (b .args .s) (omega arith) (cc) (cc)
 
 pub stage-step-spec : {M : Type 1} → statement M
 stage-step-spec =
@@ -54,4 +64,5 @@ stage-step-spec =
     delay-through-requires
     weighted-requires
     gate-requires
+    charged-upstream-requires
     returns)

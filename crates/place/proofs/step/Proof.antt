@@ -13,7 +13,7 @@ stage-step-requires : tie.Need-stage-step-requires
 stage-step-requires c κs =
     let b = c .before .before .before .before in
     let e = c .before .before .index .ensures in
-    (b .pre .0, (omega arith, omega (arith, b .pre .0 .sized (b .args .p) (omega arith)), omega arith, omega arith))
+    (b .pre .0, (omega arith, omega (arith, b .pre .0 .sized (b .args .p) (omega arith)), omega arith, omega arith, omega arith))
 
 returns : tie.Need-returns
 returns c =
@@ -27,7 +27,7 @@ segment-step-requires c κs =
     let i = b .args .p - b .args .counts .stages in
     let q : b .args .counts .stages + i ≡ b .args .p = omega arith in
     let w = rw q at (b .pre .0 .wired i (omega arith)) in
-    (b .pre .0, (omega arith, omega arith, omega arith, omega arith))
+    (b .pre .0, (omega arith, omega arith, omega arith, omega arith, omega arith))
 
 returns-2 : tie.Need-returns-2
 returns-2 c =

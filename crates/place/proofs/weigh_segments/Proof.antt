@@ -19,7 +19,7 @@ abbrev μ-loop : tie.MeasureT-loop
 
 loop-holds : tie.Need-loop-holds Inv-loop μ-loop
 loop-holds c =
-    let b = c .before .before .before .before in
+    let b = c .before .before .before in
     (weights-start (netBy (b .args .counts) (b .args .job .now)) (b .args .weights .now) (b .pre .1 .1), omega arith, refl)
 
 sub-i : tie.Need-sub-i Inv-loop μ-loop
@@ -37,7 +37,7 @@ shared-slice-read-child c = search needs
 linked-sum-requires : tie.Need-linked-sum-requires Inv-loop μ-loop
 linked-sum-requires c κs =
     let b = c .before .before .before .before .before .before .before .before in
-    let l = c .before .before .before .loop in
+    let l = c .before .before .before .before .loop in
     (b .pre .1 .0, (l .inv .0 .long, omega (arith, turn-small (netBy (b .args .counts) (b .args .job .now)) (ordered (b .pre .0)) (limited (b .pre .0)) (b .args .first .now) (b .args .next .now) (l .weights) (b .pre .1 .0) (l .i) (omega arith) (l .inv .1) (l .inv .0))))
 
 weight-requires : tie.Need-weight-requires Inv-loop μ-loop
@@ -46,18 +46,18 @@ weight-requires c κs = search needs
 add-weights : tie.Need-add-weights Inv-loop μ-loop
 add-weights c =
     let b = c .before .before .before .before .before .before .before .before .before .before in
-    let l = c .before .before .before .before .before .loop in
+    let l = c .before .before .before .before .before .before .loop in
     let e = c .before .linked-sum .ensures in
     omega (arith, turn-small (netBy (b .args .counts) (b .args .job .now)) (ordered (b .pre .0)) (limited (b .pre .0)) (b .args .first .now) (b .args .next .now) (l .weights) (b .pre .1 .0) (l .i) (omega arith) (l .inv .1) (l .inv .0), c .weight .ensures, b .pre .0 .weights (l .i - 1) (omega arith))
 
 add-weights-2 : tie.Need-add-weights-2 Inv-loop μ-loop
-add-weights-2 c = let l = c .before .before .before .before .before .before .loop .inv in omega (arith, l .0 .long)
+add-weights-2 c = let l = c .before .before .before .before .before .before .before .loop .inv in omega (arith, l .0 .long)
 
 mul-weights : tie.Need-mul-weights Inv-loop μ-loop
 mul-weights c = search needs
 
-slice-write-weights : tie.Need-slice-write-weights Inv-loop μ-loop
-slice-write-weights c = search needs
+element-write-weights : tie.Need-element-write-weights Inv-loop μ-loop
+element-write-weights c = search needs
 
 loop-less : tie.Need-loop-less Inv-loop μ-loop
 loop-less c = search needs
@@ -65,15 +65,12 @@ loop-less c = search needs
 loop-again : tie.Need-loop-again Inv-loop μ-loop
 loop-again c =
     let b = c .before .before .before .before .before .before .before .before .before .before .before in
-    let l = c .before .before .before .before .before .before .loop in
+    let l = c .before .before .before .before .before .before .before .loop in
     (turn (netBy (b .args .counts) (b .args .job .now)) (ordered (b .pre .0)) (limited (b .pre .0)) (b .args .first .now) (b .args .next .now) (l .weights) (b .pre .1 .0) (l .i) (omega arith) (l .inv .1) (l .inv .0) _ (cc), omega arith, length-set (l .weights) _ _ ∙ l .inv .2)
-
-same-length : tie.Need-same-length Inv-loop μ-loop
-same-length c = c .before .loop .inv .2
 
 returns : tie.Need-returns Inv-loop μ-loop
 returns c =
-    let b = c .before .before .before .before .before .before in
+    let b = c .before .before .before .before .before in
     let l = c .before .loop in
     let z : b .args .counts .stages + l .i ≡ b .args .counts .stages = omega arith in
     rw z at (l .inv .0)
@@ -94,8 +91,7 @@ weigh-segments-spec =
     add-weights
     add-weights-2
     mul-weights
-    slice-write-weights
+    element-write-weights
     loop-less
     loop-again
-    same-length
     returns)

@@ -17,7 +17,7 @@ abbrev μ-loop : tie.MeasureT-loop
 μ-loop job first next weights₀ root all s₀ weights s = s
 
 shared-slice-read-root : tie.Need-shared-slice-read-root Inv-loop μ-loop
-shared-slice-read-root c = omega (arith, c .before .before .before .before .before .pre .1 .0 .nodes)
+shared-slice-read-root c = omega (arith, c .before .before .before .before .pre .1 .0 .nodes)
 
 linked-sum-requires : tie.Need-linked-sum-requires Inv-loop μ-loop
 linked-sum-requires c κs =
@@ -38,8 +38,8 @@ sub-s c = search needs
 mul-weights : tie.Need-mul-weights Inv-loop μ-loop
 mul-weights c = search needs
 
-slice-write-weights : tie.Need-slice-write-weights Inv-loop μ-loop
-slice-write-weights c =
+element-write-weights : tie.Need-element-write-weights Inv-loop μ-loop
+element-write-weights c =
     let b = c .before .before .before .before .before .before .before .before .before in
     let f = c .before .loop .inv in
     omega (arith, f .few, f .long, b .pre .1 .1 .long)
@@ -52,9 +52,6 @@ loop-again c =
     let b = c .before .before .before .before .before .before .before .before .before in
     let f = c .before .loop .inv in
     filled-step _ _ _ (c .before .loop .s) (c .before .loop .weights) (omega arith) (omega (arith, f .few, f .long, b .pre .1 .1 .long)) f
-
-same-length : tie.Need-same-length Inv-loop μ-loop
-same-length c = c .before .loop .inv .long
 
 returns : tie.Need-returns Inv-loop μ-loop
 returns c =
@@ -76,8 +73,7 @@ weigh-stages-spec =
     loop-holds
     sub-s
     mul-weights
-    slice-write-weights
+    element-write-weights
     loop-less
     loop-again
-    same-length
     returns)
