@@ -21,7 +21,7 @@ use Rattle.net.proofs.Bound.{stageLoad-small, branchesLoad-small}
 use Rattle.net.proofs.Questions.{allowed-iff, allowed-ranges}
 use Rattle.place.specs.Held.{hangsAt, behind, sinkAt, free, heldLoad, DrivenFrom, GatheredFrom}
 use Rattle.place.proofs.Steps.{load-stage, load-segment}
-use Rattle.place.proofs.Held.{hangs-falls, behind-le, behind-same, driven-behind, less-from}
+use Rattle.place.proofs.Held.{hangs-falls, behind-le, behind-same, driven-behind, less-from, less-all}
 use Rattle.place.proofs.Gathering.{gathered-all, gathered-small, gathering-start, gathering-skip, gathering-step}
 
 -- the load that a place of an allowed sizing drives
@@ -137,3 +137,28 @@ module _ (net : Net) (o : Ordered net) (l : Limited net) (lower upper : List ℕ
             gathers = gathering-step (places net) (hangsAt net) _ _ p gathered few loads-after (i .gathers) u (omega (arith, hangs-falls net (o .parents) p few))
                 (g ∙ ap (λ (w : ℕ). at gathered (hangsAt net p) + w) (f ∙ rw (le-ltb (at lower p) (at upper p) h, load-here)));
           }
+
+-- Where no place is free, the places drive what they drive in the sizing.
+module _ (net : Net) (o : Ordered net) (x driven : List ℕ) (i : DrivenFrom net x x 0 driven) where
+  all-held : (q : ℕ) → free net x x q ≡ false
+  all-held q = le-ltb (at x q) (at x q) (omega arith)
+
+  shows : (q : ℕ) → q < places net → heldLoad net x x driven q ≡ loadAt net q (at x q) (sinkAt net q + behind net (heldLoad net x x driven) q)
+  shows q h = rw (all-held q) (ap (loadAt net q (at x q)) (i .held q (omega arith) h))
+
+  places-show : (q : ℕ) → q < places net → placeLoad net x q ≡ loadAt net q (at x q) (sinkAt net q + behind net (placeLoad net x) q)
+  places-show q h = ap (loadAt net q (at x q)) (driven-behind net (o .parents) x q h)
+
+  loads-same : (q : ℕ) → q < places net → heldLoad net x x driven q ≡ placeLoad net x q
+  loads-same q h =
+      omega (
+        arith,
+        less-all net (o .parents) (free net x x) (at x) (placeLoad net x) (heldLoad net x x driven) (λ r m t. places-show r m) (λ r m t. shows r m) (λ r m t. absurd (false≢true (sym (all-held r) ∙ t))) q h,
+        less-all net (o .parents) (free net x x) (at x) (heldLoad net x x driven) (placeLoad net x) (λ r m t. shows r m) (λ r m t. places-show r m) (λ r m t. absurd (false≢true (sym (all-held r) ∙ t))) q h,
+      )
+
+  pub driven-all : (q : ℕ) → q < places net → at driven q ≡ drivenLoad net x q
+  driven-all q h =
+      i .held q (omega arith) h
+      ∙ ap (λ (v : ℕ). sinkAt net q + v) (behind-same net (o .parents) _ _ q (λ r l m. loads-same r m))
+      ∙ sym (driven-behind net (o .parents) x q h)

@@ -1,15 +1,20 @@
 // The best index at one place, the rest of the sizing held.
 use net::Counts;
+use quantity::Capacitance;
 use quantity::Delay;
+use quantity::Resistance;
 ghost use mathlib.Core.Path.{_≡_};
-ghost use Prim.Native.Nat.{_+_, _<_};
+ghost use Prim.Native.Nat.{suc, _+_, _<_};
 ghost use Rattle.lattice.specs.Space.{Allowed};
 ghost use Rattle.lattice.specs.Refine.{refine as refinedAt};
 ghost use Rattle.net.specs.Net.{netBy};
 ghost use Rattle.net.specs.Delay.{delay as delayOf};
+ghost use Rattle.net.specs.Places.{drivenLoad};
 ghost use Rattle.net.specs.Sizings.{allowed};
 ghost use Rattle.net.specs.Checked.{Checked};
 ghost use Rattle.links.specs.Links.{Linked};
+ghost use Rattle.place.specs.Partial.{WeightsFrom};
+ghost use Rattle.place.specs.Held.{UpstreamTo};
 ghost use Rattle.refine.specs.Sides.{sideOf, winsOver};
 
 // The end of a tie that is answered: from below the smallest best index, from above the largest.
@@ -28,8 +33,45 @@ fn wins(side: Side, d: Delay, least: Delay) -> bool
     }
 }
 
-// Puts the best index at a place of an allowed sizing.
+// Puts the best index at a place of an allowed sizing, by what the place drives and the resistance upstream of it: these stay as they are
+// whatever its index.
 pub fn settle(
+    job: &[u8],
+    counts: Counts,
+    weights: &[u64; 68],
+    upstream: &[u64; 68],
+    driven: Capacitance,
+    x: &mut [u8],
+    place: usize,
+    side: Side,
+)
+    requires { ⌜ Checked counts (now job) ⌝ }
+    requires { ⌜ WeightsFrom (netBy counts (now job)) 0 (now weights) ⌝ }
+    requires { ⌜ Allowed (allowed (netBy counts (now job))) (now x) ⌝ }
+    requires { ⌜ place < counts .stages + counts .segments ⌝ }
+    requires { ⌜ UpstreamTo (netBy counts (now job)) (now x) (now x) (suc place) (now upstream) ⌝ }
+    requires { ⌜ driven .0 ≡ drivenLoad (netBy counts (now job)) (now x) place ⌝ }
+    ensures { λ r. ⌜ now (x .exit) ≡ refinedAt (sideOf side) (allowed (netBy counts (now (job .entry)))) (delayOf (netBy counts (now (job .entry)))) (now (x .entry)) place ⌝ }
+{
+    let weight = weights[place];
+    let before = Resistance(upstream[place]);
+    let top = job::highest(job, counts, place);
+    let mut k = job::lowest(job, counts, place);
+    let mut best = k;
+    let mut least = place::step(job, counts, weight, before, place, k, driven).delay;
+    while k < top {
+        k += 1;
+        let d = place::step(job, counts, weight, before, place, k, driven).delay;
+        if wins(side, d, least) {
+            least = d;
+            best = k;
+        }
+    }
+    x[place] = best;
+}
+
+// Puts the best index at a place of an allowed sizing.
+pub fn refine_at(
     job: &[u8],
     counts: Counts,
     first: &[usize],
@@ -44,19 +86,28 @@ pub fn settle(
     requires { ⌜ place < counts .stages + counts .segments ⌝ }
     ensures { λ r. ⌜ now (x .exit) ≡ refinedAt (sideOf side) (allowed (netBy counts (now (job .entry)))) (delayOf (netBy counts (now (job .entry)))) (now (x .entry)) place ⌝ }
 {
-    let top = job::highest(job, counts, place);
-    let mut k = job::lowest(job, counts, place);
-    let mut best = k;
-    x[place] = k;
-    let mut least = elmore::delay(job, counts, first, next, x);
-    while k < top {
-        k += 1;
-        x[place] = k;
-        let d = elmore::delay(job, counts, first, next, x);
-        if wins(side, d, least) {
-            least = d;
-            best = k;
-        }
-    }
-    x[place] = best;
+    let mut weights = [0u64; 68];
+    place::weigh(job, counts, first, next, &mut weights);
+    let mut driven = [0u64; 68];
+    place::drive(job, counts, x, x, &mut driven);
+    let mut upstream = [0u64; 68];
+    place::go_upstream(
+        job,
+        counts,
+        &weights,
+        x,
+        x,
+        &mut upstream,
+        place + 1,
+    );
+    settle(
+        job,
+        counts,
+        &weights,
+        &upstream,
+        Capacitance(driven[place]),
+        x,
+        place,
+        side,
+    );
 }

@@ -1,102 +1,113 @@
 -- `refine::settle` meets its contract: the loop knows the best index of those it has tried.
-use mathlib.Core.Path.{sym, _∙_}
-use Prim.Native.Nat.{_-_}
-use native.Mathlib.Omega.{arith}
-use borrow.Author.Needs.{needs}
-use lib.ListN.{length-set}
-use Rattle.net.specs.Net.{netBy}
+use Rattle.refine.proofs.Scanning.{allowed-long, cost, cost-trades, figures-small, Scanning, scanning-start, scanning-take, scanning-keep, scanning-end}
 use Rattle.refine.specs.Sides.{sideOf}
-use Rattle.refine.proofs.Scanning.{allowed-set, allowed-long, ready, Scanning, scanning-start, scanning-allowed, scanning-take, scanning-keep, scanning-end, refine-again}
+use Rattle.net.proofs.Questions.{ordered, limited}
+use Rattle.net.specs.Net.{netBy}
+use lib.ListN.{length-set}
+use borrow.Author.Needs.{needs}
+use native.Mathlib.Omega.{arith}
+use Prim.Native.Nat.{_-_}
+use mathlib.Core.Path.{sym, _∙_}
 use Rattle.refine.proofs.settle.Statement.{statement}
 use Rattle.refine.proofs.settle.Tie as tie
+use Rattle.refine.proofs.settle.Reads as reads
+use Rattle.refine.proofs.settle.Lts as lts
+use Rattle.job.proofs.highest.Reads as highest-reads
+use Rattle.job.proofs.lowest.Reads as lowest-reads
+use Rattle.place.proofs.step.Reads as step-reads
+use Rattle.refine.proofs.wins.Reads as wins-reads
 
 abbrev Inv-loop : tie.InvT-loop
-Inv-loop job counts first next x₀ place side top k₀ best₀ least₀ x k best least =
-    Scanning (netBy counts job) (sideOf side) x₀ place x k best (least .0)
+Inv-loop job counts weights upstream driven x place side weight before top k₀ best₀ least₀ k best least =
+    Scanning (netBy counts job) (sideOf side) x place (cost (netBy counts job) weights upstream place (driven .0)) k best (least .0)
 
 abbrev μ-loop : tie.MeasureT-loop
-μ-loop job counts first next x₀ place side top k₀ best₀ least₀ x k best least = top - k
+μ-loop job counts weights upstream driven x place side weight before top k₀ best₀ least₀ k best least = top - k
+
+mul-weight : tie.Need-mul-weight Inv-loop μ-loop
+mul-weight c =
+    let b = c .before .before in
+    omega (arith, b .pre .1 .1 .1 .0, b .pre .0 .fewStages, b .pre .0 .fewSegments)
+
+element-copy-out-weight : tie.Need-element-copy-out-weight Inv-loop μ-loop
+element-copy-out-weight c =
+    let b = c .before .before in
+    omega (arith, b .pre .1 .1 .1 .0, b .pre .0 .fewStages, b .pre .0 .fewSegments)
+
+mul-t16 : tie.Need-mul-t16 Inv-loop μ-loop
+mul-t16 c =
+    let b = c .before .before .before in
+    omega (arith, b .pre .1 .1 .1 .0, b .pre .0 .fewStages, b .pre .0 .fewSegments)
+
+element-copy-out-t19 : tie.Need-element-copy-out-t19 Inv-loop μ-loop
+element-copy-out-t19 c =
+    let b = c .before .before .before in
+    omega (arith, b .pre .1 .1 .1 .0, b .pre .0 .fewStages, b .pre .0 .fewSegments)
 
 highest-requires : tie.Need-highest-requires Inv-loop μ-loop
-highest-requires c κs = search needs
+highest-requires c κs =
+    let b = c .before .before .before .before in
+    (b .pre .0 .held, b .pre .1 .1 .1 .0)
 
 lowest-requires : tie.Need-lowest-requires Inv-loop μ-loop
-lowest-requires c κs = search needs
+lowest-requires c κs =
+    let b = c .before .before .before .before .before in
+    (b .pre .0 .held, b .pre .1 .1 .1 .0)
 
-slice-write-x : tie.Need-slice-write-x Inv-loop μ-loop
-slice-write-x c =
+step-requires : tie.Need-step-requires Inv-loop μ-loop
+step-requires c κs =
     let b = c .before .before .before .before .before .before in
-    omega (arith, allowed-long (netBy (b .args .counts) (b .args .job .now)) (b .args .x .now) (b .pre .1 .1 .0))
-
-delay-requires : tie.Need-delay-requires Inv-loop μ-loop
-delay-requires c κs =
-    let b = c .before .before .before .before .before .before .before in
-    let n = netBy (b .args .counts) (b .args .job .now) in
-    let e = c .before .lowest .ensures in
-    let r = b .pre .0 .ranges (b .args .place) (omega arith) in
-    (ready _ _ _ (b .pre .0) (allowed-set n (b .args .x .now) (b .args .place) (c .before .lowest .result) (b .pre .1 .1 .0) (omega arith) (omega arith)), b .pre .1 .0)
+    let f = figures-small (netBy (b .args .counts) (b .args .job .now)) (ordered (b .pre .0)) (limited (b .pre .0)) (b .args .weights .now) (b .args .upstream .now) (b .args .x .now) (b .pre .1 .0) (b .pre .1 .1 .0) (b .args .place) (b .args .driven .0) (b .pre .1 .1 .1 .0) (b .pre .1 .1 .1 .1 .0) (b .pre .1 .1 .1 .1 .1) in
+    (b .pre .0, (b .pre .1 .1 .1 .0, omega (arith, c .lowest .ensures, b .pre .0 .ranges (b .args .place) (b .pre .1 .1 .1 .0)), f .0, f .1, f .2))
 
 loop-holds : tie.Need-loop-holds Inv-loop μ-loop
 loop-holds c =
     let b = c .before .before .before .before .before .before .before .before in
-    let n = netBy (b .args .counts) (b .args .job .now) in
-    scanning-start n (b .args .side) (b .args .x .now) (b .args .place) (c .before .before .lowest .result) (c .delay .result .0)
-    (b .pre .1 .1 .0) (omega arith) (c .before .before .lowest .ensures) (b .pre .0 .ranges (b .args .place) (omega arith)) (c .delay .ensures)
+    scanning-start (netBy (b .args .counts) (b .args .job .now)) (b .args .side) (b .args .x .now) (b .pre .1 .1 .0) (b .args .place) (b .pre .1 .1 .1 .0) _ (cost-trades (netBy (b .args .counts) (b .args .job .now)) (ordered (b .pre .0)) (limited (b .pre .0)) (b .args .weights .now) (b .args .upstream .now) (b .args .x .now) (b .pre .1 .0) (b .pre .1 .1 .0) (b .args .place) (b .args .driven .0) (b .pre .1 .1 .1 .0) (b .pre .1 .1 .1 .1 .0) (b .pre .1 .1 .1 .1 .1)) (c .before .before .lowest .result) (c .before .step .result .delay .0) (c .before .before .lowest .ensures) (b .pre .0 .ranges (b .args .place) (b .pre .1 .1 .1 .0)) (c .before .step .ensures .delay)
 
 add-k : tie.Need-add-k Inv-loop μ-loop
 add-k c = search needs
 
-slice-write-x-2 : tie.Need-slice-write-x-2 Inv-loop μ-loop
-slice-write-x-2 c = let l = c .before .loop .inv in omega arith
-
-delay-requires-2 : tie.Need-delay-requires-2 Inv-loop μ-loop
-delay-requires-2 c κs =
-    let b = c .before .before .before .before .before .before .before .before .before .before .before in
-    let l = c .before .before .loop in
-    let n = netBy (b .args .counts) (b .args .job .now) in
-    (ready _ _ _ (b .pre .0) (scanning-allowed n (b .args .side) _ (b .args .place) (l .x) (l .k) (l .best) (l .least .0) (l .inv) (omega arith)), b .pre .1 .0)
+step-requires-2 : tie.Need-step-requires-2 Inv-loop μ-loop
+step-requires-2 c κs =
+    let b = c .before .before .before .before .before .before .before .before .before .before in
+    let f = figures-small (netBy (b .args .counts) (b .args .job .now)) (ordered (b .pre .0)) (limited (b .pre .0)) (b .args .weights .now) (b .args .upstream .now) (b .args .x .now) (b .pre .1 .0) (b .pre .1 .1 .0) (b .args .place) (b .args .driven .0) (b .pre .1 .1 .1 .0) (b .pre .1 .1 .1 .1 .0) (b .pre .1 .1 .1 .1 .1) in
+    (b .pre .0, (b .pre .1 .1 .1 .0, omega (arith, c .loop-test .taken, c .before .before .before .before .before .highest .ensures), f .0, f .1, f .2))
 
 wins-requires : tie.Need-wins-requires Inv-loop μ-loop
 wins-requires c κs = search needs
 
 loop-less : tie.Need-loop-less Inv-loop μ-loop
-loop-less c = search needs
+loop-less c = omega (arith, c .before .before .before .before .loop-test .taken)
 
 loop-again : tie.Need-loop-again Inv-loop μ-loop
 loop-again c =
     let b = c .before .before .before .before .before .before .before .before .before .before .before .before .before .before in
     let l = c .before .before .before .before .before .loop in
-    let n = netBy (b .args .counts) (b .args .job .now) in
-    scanning-take n (b .args .side) _ (b .args .place) (l .x) (l .k) (l .best) (l .least .0) (l .inv) (omega arith) (c .before .before .delay2 .result .0)
-    (c .before .before .delay2 .ensures) (sym (c .before .wins .ensures) ∙ c .if1 .taken)
+    scanning-take (netBy (b .args .counts) (b .args .job .now)) (b .args .side) (b .args .x .now) (b .pre .1 .1 .0) (b .args .place) (b .pre .1 .1 .1 .0) _ (cost-trades (netBy (b .args .counts) (b .args .job .now)) (ordered (b .pre .0)) (limited (b .pre .0)) (b .args .weights .now) (b .args .upstream .now) (b .args .x .now) (b .pre .1 .0) (b .pre .1 .1 .0) (b .args .place) (b .args .driven .0) (b .pre .1 .1 .1 .0) (b .pre .1 .1 .1 .1 .0) (b .pre .1 .1 .1 .1 .1)) (l .k) (l .best) (l .least .0) (l .inv) (omega (arith, c .before .before .before .before .loop-test .taken, c .before .before .before .before .before .before .before .before .before .highest .ensures)) (c .before .before .before .step2 .result .delay .0) (c .before .before .before .step2 .ensures .delay) (sym (c .before .wins .ensures) ∙ c .if1 .taken)
 
 loop-less-2 : tie.Need-loop-less-2 Inv-loop μ-loop
-loop-less-2 c = search needs
+loop-less-2 c = omega (arith, c .before .before .before .before .loop-test .taken)
 
 loop-again-2 : tie.Need-loop-again-2 Inv-loop μ-loop
 loop-again-2 c =
     let b = c .before .before .before .before .before .before .before .before .before .before .before .before .before .before in
     let l = c .before .before .before .before .before .loop in
-    let n = netBy (b .args .counts) (b .args .job .now) in
-    scanning-keep n (b .args .side) _ (b .args .place) (l .x) (l .k) (l .best) (l .least .0) (l .inv) (omega arith) (c .before .before .delay2 .result .0)
-    (c .before .before .delay2 .ensures) (sym (c .before .wins .ensures) ∙ c .if1 .left)
+    scanning-keep (netBy (b .args .counts) (b .args .job .now)) (b .args .side) (b .args .x .now) (b .pre .1 .1 .0) (b .args .place) (b .pre .1 .1 .1 .0) _ (cost-trades (netBy (b .args .counts) (b .args .job .now)) (ordered (b .pre .0)) (limited (b .pre .0)) (b .args .weights .now) (b .args .upstream .now) (b .args .x .now) (b .pre .1 .0) (b .pre .1 .1 .0) (b .args .place) (b .args .driven .0) (b .pre .1 .1 .1 .0) (b .pre .1 .1 .1 .1 .0) (b .pre .1 .1 .1 .1 .1)) (l .k) (l .best) (l .least .0) (l .inv) (omega (arith, c .before .before .before .before .loop-test .taken, c .before .before .before .before .before .before .before .before .before .highest .ensures)) (c .before .before .before .step2 .result .delay .0) (c .before .before .before .step2 .ensures .delay) (sym (c .before .wins .ensures) ∙ c .if1 .left)
 
-slice-write-x-3 : tie.Need-slice-write-x-3 Inv-loop μ-loop
-slice-write-x-3 c = let l = c .before .loop .inv in omega arith
+slice-write-x : tie.Need-slice-write-x Inv-loop μ-loop
+slice-write-x c =
+    let b = c .before .before .before .before .before .before .before .before .before .before in
+    omega (arith, b .pre .1 .1 .1 .0, allowed-long (netBy (b .args .counts) (b .args .job .now)) (b .args .x .now) (b .pre .1 .1 .0))
 
 same-length : tie.Need-same-length Inv-loop μ-loop
-same-length c =
-    let b = c .before .before .before .before .before .before .before .before .before .before in
-    let n = netBy (b .args .counts) (b .args .job .now) in
-    length-set (c .before .loop .x) _ _ ∙ c .before .loop .inv .long ∙ sym (allowed-long n (b .args .x .now) (b .pre .1 .1 .0))
+same-length c = length-set (c .before .before .before .before .before .before .before .before .before .before .args .x .now) _ _
 
 returns : tie.Need-returns Inv-loop μ-loop
 returns c =
     let b = c .before .before .before .before .before .before .before .before .before .before in
     let l = c .before .loop in
-    let n = netBy (b .args .counts) (b .args .job .now) in
-    scanning-end n (b .args .side) _ (b .args .place) (l .x) (l .k) (l .best) (l .least .0) (l .inv) (omega arith)
-    ∙ refine-again n (b .args .side) (b .args .x .now) (b .args .place) _ (b .pre .1 .1 .0) (omega arith) (l .inv .start)
+    scanning-end (netBy (b .args .counts) (b .args .job .now)) (b .args .side) (b .args .x .now) (b .pre .1 .1 .0) (b .args .place) (b .pre .1 .1 .1 .0) _ (cost-trades (netBy (b .args .counts) (b .args .job .now)) (ordered (b .pre .0)) (limited (b .pre .0)) (b .args .weights .now) (b .args .upstream .now) (b .args .x .now) (b .pre .1 .0) (b .pre .1 .1 .0) (b .args .place) (b .args .driven .0) (b .pre .1 .1 .1 .0) (b .pre .1 .1 .1 .1 .0) (b .pre .1 .1 .1 .1 .1)) (l .k) (l .best) (l .least .0) (l .inv) (omega (arith, c .loop-test .left, c .before .before .before .before .before .highest .ensures))
 
 pub settle-spec : {M : Type 1} → statement M
 settle-spec =
@@ -104,19 +115,21 @@ settle-spec =
     (tie.spec
     Inv-loop
     μ-loop
+    mul-weight
+    element-copy-out-weight
+    mul-t16
+    element-copy-out-t19
     highest-requires
     lowest-requires
-    slice-write-x
-    delay-requires
+    step-requires
     loop-holds
     add-k
-    slice-write-x-2
-    delay-requires-2
+    step-requires-2
     wins-requires
     loop-less
     loop-again
     loop-less-2
     loop-again-2
-    slice-write-x-3
+    slice-write-x
     same-length
     returns)
