@@ -2,19 +2,29 @@
 use mathlib.Core.Path.{_≡_, _∙_, refl, sym, ap, subst}
 use mathlib.Core.Bool.{Bool, true, false, not, _||_, true≢false, false≢true}
 use mathlib.Core.List.{List}
-use Prim.Native.Nat.{ℕ, _+_, _<_}
+use Prim.Native.Nat.{ℕ, suc, _+_, _≤_, _<_}
 use native.Mathlib.Omega.{arith}
 use lib.Dec.{eqb}
 use lib.ListN.{length, set, length-set}
-use lib.Seq.{set-getD}
+use lib.Seq.{set-getD, getD-set-other}
 use borrow.Author.Count.{below-more}
 use borrow.Author.Tests.{eqb-true, eqb-false}
 use Rattle.lattice.specs.Side.{Side}
 use Rattle.lattice.specs.Lists.{at}
-use Rattle.lattice.specs.Space.{Space, Lattice, Submodular}
+use Rattle.lattice.specs.Space.{Space, Lattice, Submodular, within}
 use Rattle.lattice.specs.Refine.{bound, refine, slack, Approaching}
 use Rattle.lattice.proofs.Refining.{at-set, approaching-step, approaching-stop}
 use Rattle.lattice.proofs.Theorems.{approaching-slack}
+use Rattle.net.specs.Net.{Net, places}
+use Rattle.net.specs.Delay.{delay}
+use Rattle.net.specs.Places.{drivenLoad}
+use Rattle.net.specs.Sizings.{allowed}
+use Rattle.net.specs.Checked.{Ordered}
+use Rattle.net.proofs.Places.{driven-reads}
+use Rattle.net.proofs.Dominance.{allowed-lattice, delay-submodular}
+use Rattle.place.specs.Held.{hangsAt, before, onward, DrivenFrom, UpstreamTo}
+use Rattle.place.proofs.Driving.{driven-all}
+use Rattle.place.proofs.Upstream.{upstream-start, upstream-step, upstream-reads}
 use Rattle.bounds.specs.Sweep.{Swept}
 
 -- a step keeps the length
@@ -65,3 +75,39 @@ module _ {sp : Space} {D : List ℕ → ℕ} (la : Lattice sp) (sub : Submodular
   -- a sweep that changed nothing
   pub swept-end : {x₀ x : List ℕ} {c : Bool} → Swept s sp D x₀ (sp .places) x c → c ≡ false → x ≡ bound s sp D
   swept-end {x = x} i e = approaching-stop la sub s x (i .approaching) (i .still e)
+
+-- What a sweep's loop knows: the places from p on are as they were, and what is upstream of those before p is known.
+pub record Sweeping (net : Net) (s : Side) (x₀ : List ℕ) (p : ℕ) (x upstream : List ℕ) (changed : Bool) : Type 0 where
+  pub upTo : p ≤ places net
+  pub swept : Swept s (allowed net) (delay net) x₀ p x changed
+  pub known : UpstreamTo net x x p upstream
+  pub later : (q : ℕ) → p ≤ q → q < places net → at x q ≡ at x₀ q
+
+module _ (net : Net) (o : Ordered net) (s : Side) (x₀ : List ℕ) where
+  pub sweeping-start : (upstream : List ℕ) → places net ≤ length upstream → Approaching s (allowed net) (delay net) x₀ → Sweeping net s x₀ 0 x₀ upstream false
+  sweeping-start upstream h a =
+      record { upTo = omega arith; swept = swept-start x₀ a; known = upstream-start net x₀ x₀ upstream h; later = λ q l m. refl }
+
+  module _ (p : ℕ) (few : p < places net) (x upstream : List ℕ) (changed : Bool) (i : Sweeping net s x₀ p x upstream changed) where
+    -- the place drives what it drove when the sweep began
+    pub drives-yet : (driven : List ℕ) → DrivenFrom net x₀ x₀ 0 driven → at driven p ≡ drivenLoad net x p
+    drives-yet driven d =
+        driven-all net o x₀ driven d p few ∙ driven-reads net (o .parents) x₀ x p few (λ q l m. sym (i .later q (omega arith) m))
+
+    module _ (v : ℕ) (e : v ≡ before (onward net x x upstream) (hangsAt net p)) where
+      pub known-more : UpstreamTo net x x (suc p) (set upstream p v)
+      known-more = let z : p + 1 ≡ suc p = omega arith in rw z at (upstream-step net o x x upstream p v few (i .known) e)
+
+      pub sweeping-step : (y : List ℕ) → y ≡ refine s (allowed net) (delay net) x p
+          → Sweeping net s x₀ (p + 1) y (set upstream p v) (changed || not (eqb (at y p) (at x p)))
+      unfolding refine within
+      sweeping-step y f =
+          record {
+            upTo = omega arith;
+            swept = swept-step (allowed-lattice net) (delay-submodular net o) s x₀ x y p changed (i .swept) few f;
+            known = let z : suc p ≡ p + 1 = omega arith in rw z at (upstream-reads net o x y (set upstream p v) (suc p) (λ a l. sym (elsewhere a (λ g. omega arith))) known-more);
+            later = λ q l m. elsewhere q (λ g. omega arith) ∙ i .later q (omega arith) m;
+          }
+        where
+          elsewhere : (q : ℕ) → (q ≡ p → ⊥) → at y q ≡ at x q
+          elsewhere q n = ap (λ z. at z q) f ∙ getD-set-other x p q _ 0 n

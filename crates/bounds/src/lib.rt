@@ -1,5 +1,6 @@
 // The lower and the upper bound of a net, found by refining at each place until no index changes, and the room between them.
 use net::Counts;
+use quantity::Capacitance;
 use refine::Side;
 ghost use mathlib.Core.Path.{_≡_};
 ghost use Prim.Native.Nat.{suc, _+_, _-_, _<_, _≤_};
@@ -11,7 +12,7 @@ ghost use Rattle.net.specs.Net.{netBy};
 ghost use Rattle.net.specs.Delay.{delay};
 ghost use Rattle.net.specs.Sizings.{allowed};
 ghost use Rattle.net.specs.Checked.{Checked};
-ghost use Rattle.links.specs.Links.{Linked};
+ghost use Rattle.place.specs.Partial.{WeightsFrom};
 ghost use Rattle.refine.specs.Sides.{sideOf};
 ghost use Rattle.bounds.specs.Sweep.{firstAt, Swept};
 ghost use Rattle.bounds.specs.Between.{Between};
@@ -42,26 +43,33 @@ fn start(job: &[u8], counts: Counts, x: &mut [u8], side: Side)
     }
 }
 
-// Refines at each place in turn, and tells whether an index changed.
-fn sweep(
-    job: &[u8],
-    counts: Counts,
-    first: &[usize],
-    next: &[usize],
-    x: &mut [u8],
-    side: Side,
-) -> bool
+// Refines at each place in turn, and tells whether an index changed. What the places drive is found once: a place drives what stands after it,
+// and an index is put only before that.
+fn sweep(job: &[u8], counts: Counts, weights: &[u64; 68], x: &mut [u8], side: Side) -> bool
     requires { ⌜ Checked counts (now job) ⌝ }
-    requires { ⌜ Linked (netBy counts (now job)) (now first) (now next) ⌝ }
+    requires { ⌜ WeightsFrom (netBy counts (now job)) 0 (now weights) ⌝ }
     requires { ⌜ Approaching (sideOf side) (allowed (netBy counts (now job))) (delay (netBy counts (now job))) (now x) ⌝ }
     ensures { λ r. ⌜ Swept (sideOf side) (allowed (netBy counts (now (job .entry)))) (delay (netBy counts (now (job .entry)))) (now (x .entry)) (counts .stages + counts .segments) (now (x .exit)) r ⌝ }
 {
     let places = counts.stages + counts.segments;
+    let mut driven = [0u64; 68];
+    place::drive(job, counts, x, x, &mut driven);
+    let mut upstream = [0u64; 68];
     let mut changed = false;
     let mut p = 0;
     while p < places {
         let before = x[p];
-        refine::settle(job, counts, first, next, x, p, side);
+        upstream[p] = place::upstream_at(job, counts, weights, x, x, &upstream, p);
+        refine::settle(
+            job,
+            counts,
+            weights,
+            &upstream,
+            Capacitance(driven[p]),
+            x,
+            p,
+            side,
+        );
         changed = changed | (x[p] != before);
         p += 1;
     }
@@ -69,14 +77,14 @@ fn sweep(
 }
 
 // The bound from a side, whatever x held before.
-pub fn bound(job: &[u8], counts: Counts, first: &[usize], next: &[usize], x: &mut [u8], side: Side)
+pub fn bound(job: &[u8], counts: Counts, weights: &[u64; 68], x: &mut [u8], side: Side)
     requires { ⌜ Checked counts (now job) ⌝ }
-    requires { ⌜ Linked (netBy counts (now job)) (now first) (now next) ⌝ }
+    requires { ⌜ WeightsFrom (netBy counts (now job)) 0 (now weights) ⌝ }
     requires { ⌜ length (now x) ≡ counts .stages + counts .segments ⌝ }
     ensures { λ r. ⌜ now (x .exit) ≡ boundOf (sideOf side) (allowed (netBy counts (now (job .entry)))) (delay (netBy counts (now (job .entry)))) ⌝ }
 {
     start(job, counts, x, side);
-    while sweep(job, counts, first, next, x, side) {}
+    while sweep(job, counts, weights, x, side) {}
 }
 
 // Question 13: is the lower bound at most the upper at each place?

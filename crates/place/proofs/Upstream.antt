@@ -92,3 +92,14 @@ upstream-step net o lower upper upstream p v h u e =
     here : (q : ℕ) → q < places net → (q ≡ p) ⊎ (q < p) → at (set upstream p v) q ≡ before (onward net lower upper (set upstream p v)) (hangsAt net q)
     here q m (inl f) = rw f (getD-set-same upstream p v 0 (omega (arith, u .long)) ∙ e ∙ same p h (omega arith))
     here q m (inr f) = getD-set-other upstream p q v 0 (λ k. omega arith) ∙ u .held q f m ∙ same q m (omega arith)
+
+-- Where no place is free, what is upstream of a place reads the indices of the places before it.
+pub upstream-reads : (net : Net) → Ordered net → (x y upstream : List ℕ) (n : ℕ) → ((a : ℕ) → suc a < n → at x a ≡ at y a) → UpstreamTo net x x n upstream → UpstreamTo net y y n upstream
+upstream-reads net o x y upstream n same u =
+    record {
+      long = u .long;
+      held = λ q l m.
+          let f = hangs-falls net (o .parents) q m in
+          u .held q l m
+          ∙ before-same _ _ (hangsAt net q) (λ a e. ap (λ (v : ℕ). cond (ltb v v) 0 (slope net a v + cond (ltb a (net .stages)) 0 (at upstream a))) (same a (omega arith)));
+    }

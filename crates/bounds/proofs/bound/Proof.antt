@@ -15,10 +15,10 @@ use Rattle.bounds.proofs.bound.Statement.{statement}
 use Rattle.bounds.proofs.bound.Tie as tie
 
 abbrev Inv-loop : tie.InvT-loop
-Inv-loop job counts first next x₀ side x = Approaching (sideOf side) (allowed (netBy counts job)) (delay (netBy counts job)) x
+Inv-loop job counts weights x₀ side x = Approaching (sideOf side) (allowed (netBy counts job)) (delay (netBy counts job)) x
 
 abbrev μ-loop : tie.MeasureT-loop
-μ-loop job counts first next x₀ side x = slack (sideOf side) (allowed (netBy counts job)) x
+μ-loop job counts weights x₀ side x = slack (sideOf side) (allowed (netBy counts job)) x
 
 start-requires : tie.Need-start-requires Inv-loop μ-loop
 start-requires c κs = search needs
@@ -28,7 +28,7 @@ loop-holds c = c .before .before .start .ensures
 
 sweep-requires : tie.Need-sweep-requires Inv-loop μ-loop
 sweep-requires c κs =
-    let b = c .before .before .before .before .before .before .before .before .before .before in
+    let b = c .before .before .before .before .before .before .before .before in
     (b .pre .0, (b .pre .1 .0, c .before .loop .inv))
 
 loop-less : tie.Need-loop-less Inv-loop μ-loop
@@ -39,13 +39,13 @@ loop-again c = c .before .before .before .sweep .ensures .approaching
 
 same-length : tie.Need-same-length Inv-loop μ-loop
 same-length c =
-    let b = c .before .before .before .before .before .before .before .before .before .before .before .before .before .before in
+    let b = c .before .before .before .before .before .before .before .before .before .before .before .before in
     allowed-long (netBy (b .args .counts) (b .args .job .now)) _ (c .before .before .before .sweep .ensures .approaching .allowed) ∙ sym (b .pre .1 .1)
 
 returns : tie.Need-returns Inv-loop μ-loop
 unfolding within
 returns c =
-    let b = c .before .before .before .before .before .before .before .before .before .before .before .before .before .before in
+    let b = c .before .before .before .before .before .before .before .before .before .before .before .before in
     let n = netBy (b .args .counts) (b .args .job .now) in
     swept-end (allowed-lattice n) (delay-submodular n (ordered (b .pre .0))) (sideOf (b .args .side)) (c .before .before .before .sweep .ensures) (c .if1 .left)
 

@@ -1,79 +1,117 @@
 -- `bounds::sweep` meets its contract: the loop knows what a sweep of the places passed comes to.
-use mathlib.Core.Path.{_≡_, sym, _∙_}
-use Prim.Native.Nat.{_+_, _-_, _≤_}
-use native.Mathlib.Omega.{arith}
-use borrow.Author.Needs.{needs}
-use Rattle.lattice.specs.Space.{within}
-use Rattle.net.specs.Net.{netBy}
-use Rattle.net.specs.Delay.{delay}
-use Rattle.net.specs.Sizings.{allowed}
-use Rattle.net.proofs.Dominance.{allowed-lattice, delay-submodular}
-use Rattle.net.proofs.Questions.{ordered}
-use Rattle.refine.specs.Sides.{sideOf}
+use Rattle.bounds.proofs.Sweeping.{refined-long, Sweeping, sweeping-start, drives-yet, known-more, sweeping-step}
 use Rattle.refine.proofs.Scanning.{allowed-long}
-use Rattle.bounds.specs.Sweep.{Swept}
-use Rattle.bounds.proofs.Sweeping.{swept-start, refined-long, swept-step}
+use Rattle.refine.specs.Sides.{sideOf}
+use Rattle.net.proofs.Questions.{ordered}
+use Rattle.net.specs.Net.{netBy}
+use lib.ListN.{replicate, length-replicate}
+use borrow.Author.Needs.{needs}
+use native.Mathlib.Omega.{arith}
+use Prim.Native.Nat.{ℕ, _+_, _-_}
+use mathlib.Core.Path.{_≡_, sym, _∙_}
 use Rattle.bounds.proofs.sweep.Statement.{statement}
 use Rattle.bounds.proofs.sweep.Tie as tie
+use Rattle.bounds.proofs.sweep.Reads as reads
+use Rattle.bounds.proofs.sweep.Lts as lts
+use Rattle.place.proofs.drive.Reads as drive-reads
+use Rattle.place.proofs.upstream_at.Reads as upstream-at-reads
+use Rattle.refine.proofs.settle.Reads as settle-reads
 
 abbrev Inv-loop : tie.InvT-loop
-Inv-loop job counts first next x₀ side places changed₀ p₀ x changed p =
-    (p ≤ places) × Swept (sideOf side) (allowed (netBy counts job)) (delay (netBy counts job)) x₀ p x changed
+Inv-loop job counts weights x₀ side places driven upstream₀ changed₀ p₀ x upstream changed p =
+    Sweeping (netBy counts job) (sideOf side) x₀ p x upstream changed
 
 abbrev μ-loop : tie.MeasureT-loop
-μ-loop job counts first next x₀ side places changed₀ p₀ x changed p = places - p
+μ-loop job counts weights x₀ side places driven upstream₀ changed₀ p₀ x upstream changed p = places - p
 
 add-places : tie.Need-add-places Inv-loop μ-loop
 add-places c = search needs
 
+drive-requires : tie.Need-drive-requires Inv-loop μ-loop
+drive-requires c κs =
+    let b = c .before .before .before .before .before in
+    (b .pre .0, (b .pre .1 .1 .allowed, (omega (arith, allowed-long (netBy (b .args .counts) (b .args .job .now)) (b .args .x .now) (b .pre .1 .1 .allowed)), omega (arith, b .pre .0 .fewStages, b .pre .0 .fewSegments))))
+
 loop-holds : tie.Need-loop-holds Inv-loop μ-loop
-loop-holds c = let b = c .before .before .before .before .before in (omega arith, swept-start (b .args .x .now) (b .pre .1 .1))
+loop-holds c =
+    let b = c .before .before .before .before .before .before in
+    sweeping-start (netBy (b .args .counts) (b .args .job .now)) (ordered (b .pre .0)) (sideOf (b .args .side)) (b .args .x .now) (replicate 68 0) (omega (arith, length-replicate {A = ℕ} 68 0, b .pre .0 .fewStages, b .pre .0 .fewSegments)) (b .pre .1 .1)
 
 slice-read-before : tie.Need-slice-read-before Inv-loop μ-loop
 slice-read-before c =
-    let b = c .before .before .before .before .before .before .before .before in
+    let b = c .before .before .before .before .before .before .before .before .before in
     let l = c .before .before .loop in
-    omega (arith, allowed-long (netBy (b .args .counts) (b .args .job .now)) (l .x) (l .inv .1 .approaching .allowed))
+    omega (arith, c .before .loop-test .taken, allowed-long (netBy (b .args .counts) (b .args .job .now)) (l .x) (l .inv .swept .approaching .allowed))
+
+upstream-at-requires : tie.Need-upstream-at-requires Inv-loop μ-loop
+upstream-at-requires c κs =
+    let b = c .before .before .before .before .before .before .before .before .before .before .before in
+    let l = c .before .before .before .before .loop in
+    (b .pre .0, (b .pre .1 .0, (l .inv .swept .approaching .allowed, (omega (arith, allowed-long (netBy (b .args .counts) (b .args .job .now)) (l .x) (l .inv .swept .approaching .allowed)), (omega (arith, c .before .before .before .loop-test .taken), l .inv .known)))))
+
+mul-upstream : tie.Need-mul-upstream Inv-loop μ-loop
+mul-upstream c =
+    let b = c .before .before .before .before .before .before .before .before .before .before .before .before in
+    let l = c .before .before .before .before .before .loop in
+    omega (arith, l .inv .upTo, b .pre .0 .fewStages, b .pre .0 .fewSegments)
+
+array-write-upstream : tie.Need-array-write-upstream Inv-loop μ-loop
+array-write-upstream c =
+    let b = c .before .before .before .before .before .before .before .before .before .before .before .before in
+    let l = c .before .before .before .before .before .loop in
+    omega (arith, c .before .before .before .before .loop-test .taken, b .pre .0 .fewStages, b .pre .0 .fewSegments)
+
+mul-t27 : tie.Need-mul-t27 Inv-loop μ-loop
+mul-t27 c =
+    let b = c .before .before .before .before .before .before .before .before .before .before .before .before .before in
+    let l = c .before .before .before .before .before .before .loop in
+    omega (arith, l .inv .upTo, b .pre .0 .fewStages, b .pre .0 .fewSegments)
+
+array-read-t21 : tie.Need-array-read-t21 Inv-loop μ-loop
+array-read-t21 c =
+    let b = c .before .before .before .before .before .before .before .before .before .before .before .before .before in
+    let l = c .before .before .before .before .before .before .loop in
+    omega (arith, c .before .before .before .before .before .loop-test .taken, b .pre .0 .fewStages, b .pre .0 .fewSegments)
 
 settle-requires : tie.Need-settle-requires Inv-loop μ-loop
 settle-requires c κs =
-    let b = c .before .before .before .before .before .before .before .before .before in
-    (b .pre .0, (b .pre .1 .0, (c .before .before .before .loop .inv .1 .approaching .allowed, omega arith)))
+    let b = c .before .before .before .before .before .before .before .before .before .before .before .before .before .before in
+    let l = c .before .before .before .before .before .before .before .loop in
+    (b .pre .0, (b .pre .1 .0, (l .inv .swept .approaching .allowed, (omega (arith, c .before .before .before .before .before .before .loop-test .taken), (known-more (netBy (b .args .counts) (b .args .job .now)) (ordered (b .pre .0)) (sideOf (b .args .side)) (b .args .x .now) (l .p) (omega (arith, c .before .before .before .before .before .before .loop-test .taken)) (l .x) (l .upstream) (l .changed) (l .inv) _ (c .before .before .upstream-at .ensures), drives-yet (netBy (b .args .counts) (b .args .job .now)) (ordered (b .pre .0)) (sideOf (b .args .side)) (b .args .x .now) (l .p) (omega (arith, c .before .before .before .before .before .before .loop-test .taken)) (l .x) (l .upstream) (l .changed) (l .inv) _ (c .before .before .before .before .before .before .before .before .drive .ensures))))))
 
 slice-read-changed : tie.Need-slice-read-changed Inv-loop μ-loop
 slice-read-changed c =
-    let b = c .before .before .before .before .before .before .before .before .before .before .before .before .before in
-    let l = c .before .before .before .before .before .before .before .loop in
-    let e = refined-long _ _ _ (l .x) _ (l .p) (c .before .before .before .settle .ensures) in
-    omega (arith, e, allowed-long (netBy (b .args .counts) (b .args .job .now)) (l .x) (l .inv .1 .approaching .allowed))
+    let b = c .before .before .before .before .before .before .before .before .before .before .before .before .before .before .before .before .before .before in
+    let l = c .before .before .before .before .before .before .before .before .before .before .before .loop in
+    omega (arith, c .before .before .before .before .before .before .before .before .before .before .loop-test .taken, refined-long _ _ _ (l .x) _ (l .p) (c .before .before .before .settle .ensures), allowed-long (netBy (b .args .counts) (b .args .job .now)) (l .x) (l .inv .swept .approaching .allowed))
 
 add-p : tie.Need-add-p Inv-loop μ-loop
-add-p c = search needs
+add-p c =
+    let b = c .before .before .before .before .before .before .before .before .before .before .before .before .before .before .before .before .before .before in
+    let l = c .before .before .before .before .before .before .before .before .before .before .before .loop in
+    omega (arith, l .inv .upTo, b .pre .0 .fewStages, b .pre .0 .fewSegments)
 
 loop-less : tie.Need-loop-less Inv-loop μ-loop
-loop-less c = search needs
+loop-less c = omega (arith, c .before .before .before .before .before .before .before .before .before .before .loop-test .taken)
 
 loop-again : tie.Need-loop-again Inv-loop μ-loop
-unfolding within
 loop-again c =
-    let b = c .before .before .before .before .before .before .before .before .before .before .before .before .before in
-    let l = c .before .before .before .before .before .before .before .loop in
-    let n = netBy (b .args .counts) (b .args .job .now) in
-    (omega arith, swept-step (allowed-lattice n) (delay-submodular n (ordered (b .pre .0))) (sideOf (b .args .side)) (b .args .x .now) (l .x) _ (l .p) (l .changed) (l .inv .1) (omega arith) (c .before .before .before .settle .ensures))
+    let b = c .before .before .before .before .before .before .before .before .before .before .before .before .before .before .before .before .before .before in
+    let l = c .before .before .before .before .before .before .before .before .before .before .before .loop in
+    sweeping-step (netBy (b .args .counts) (b .args .job .now)) (ordered (b .pre .0)) (sideOf (b .args .side)) (b .args .x .now) (l .p) (omega (arith, c .before .before .before .before .before .before .before .before .before .before .loop-test .taken)) (l .x) (l .upstream) (l .changed) (l .inv) _ (c .before .before .before .before .before .before .upstream-at .ensures) _ (c .before .before .before .settle .ensures)
 
 same-length : tie.Need-same-length Inv-loop μ-loop
 same-length c =
-    let b = c .before .before .before .before .before .before .before in
-    let n = netBy (b .args .counts) (b .args .job .now) in
+    let b = c .before .before .before .before .before .before .before .before in
     let l = c .before .loop in
-    allowed-long n (l .x) (l .inv .1 .approaching .allowed) ∙ sym (allowed-long n (b .args .x .now) (b .pre .1 .1 .allowed))
+    allowed-long (netBy (b .args .counts) (b .args .job .now)) (l .x) (l .inv .swept .approaching .allowed) ∙ sym (allowed-long (netBy (b .args .counts) (b .args .job .now)) (b .args .x .now) (b .pre .1 .1 .allowed))
 
 returns : tie.Need-returns Inv-loop μ-loop
 returns c =
-    let b = c .before .before .before .before .before .before .before in
+    let b = c .before .before .before .before .before .before .before .before in
     let l = c .before .loop in
-    let e : l .p ≡ b .args .counts .stages + b .args .counts .segments = omega arith in
-    rw e at (l .inv .1)
+    let e : l .p ≡ b .args .counts .stages + b .args .counts .segments = omega (arith, l .inv .upTo, c .loop-test .left) in
+    rw e at (l .inv .swept)
 
 pub sweep-spec : {M : Type 1} → statement M
 sweep-spec =
@@ -82,8 +120,14 @@ sweep-spec =
     Inv-loop
     μ-loop
     add-places
+    drive-requires
     loop-holds
     slice-read-before
+    upstream-at-requires
+    mul-upstream
+    array-write-upstream
+    mul-t27
+    array-read-t21
     settle-requires
     slice-read-changed
     add-p
