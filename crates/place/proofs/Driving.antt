@@ -15,12 +15,12 @@ use Rattle.lattice.specs.Lists.{at}
 use Rattle.lattice.specs.Space.{Allowed}
 use Rattle.net.specs.Net.{Net, places}
 use Rattle.net.specs.Sizings.{allowed}
-use Rattle.net.specs.Places.{loadAt, drivenLoad, placeLoad}
+use Rattle.net.specs.Places.{delayAt, loadAt, drivenLoad, placeLoad}
 use Rattle.net.specs.Checked.{Ordered, Limited}
 use Rattle.net.proofs.Bound.{stageLoad-small, branchesLoad-small}
 use Rattle.net.proofs.Questions.{allowed-iff, allowed-ranges}
 use Rattle.place.specs.Held.{hangsAt, behind, sinkAt, free, heldLoad, DrivenFrom, GatheredFrom}
-use Rattle.place.proofs.Steps.{load-stage, load-segment}
+use Rattle.place.proofs.Steps.{through-small, load-stage, load-segment}
 use Rattle.place.proofs.Held.{hangs-falls, behind-le, behind-same, driven-behind, less-from, less-all}
 use Rattle.place.proofs.Gathering.{gathered-all, gathered-small, gathering-start, gathering-skip, gathering-step}
 
@@ -47,6 +47,19 @@ load-most net l p k d h m n = go (decLe (suc p) (net .stages))
         let e : net .stages + (p - net .stages) ≡ p = omega arith in
         rw (load-segment net p k d j) (omega (arith, l .capacitances (p - net .stages) k (omega arith) (rw e m)))
 
+-- the delay that it has
+pub delay-most : (net : Net) → Limited net → (p k d : ℕ) → p < places net → k ≤ net .highest p → d ≤ 12900000 → delayAt net p k d ≤ 2600000000000
+unfolding delayAt
+delay-most net l p k d h m n = go (decLe (suc p) (net .stages))
+  where
+    go : Dec (suc p ≤ net .stages) → delayAt net p k d ≤ 2600000000000
+    go (yes i) = rw (lt-ltb p (net .stages) i) (through-small _ _ (l .drivers p k i m) (omega (arith, l .outputs p k i m)))
+    go (no i) =
+        let j : net .stages ≤ p = omega arith in
+        let e : net .stages + (p - net .stages) ≡ p = omega arith in
+        rw (le-ltb p (net .stages) j)
+        (through-small _ _ (l .resistances (p - net .stages) k (omega arith) (rw e m)) (omega (arith, l .capacitances (p - net .stages) k (omega arith) (rw e m))))
+
 -- What the loop knows when the places from p on are done.
 pub record Driving (net : Net) (lower upper : List ℕ) (p : ℕ) (driven gathered : List ℕ) : Type 0 where
   pub drives : DrivenFrom net lower upper p driven
@@ -56,11 +69,22 @@ module _ (net : Net) (o : Ordered net) (l : Limited net) (lower upper : List ℕ
   -- what is held shows no more than the sizing `lower`
   held-less : (driven : List ℕ) (p : ℕ) → DrivenFrom net lower upper p driven → (q : ℕ) → p ≤ q → q < places net → heldLoad net lower upper driven q ≤ placeLoad net lower q
   held-less driven p i q h m =
-      less-from net (o .parents) (free net lower upper) (at lower) (placeLoad net lower) (heldLoad net lower upper driven) p
+      less-from net (o .parents) (free lower upper) (at lower) (placeLoad net lower) (heldLoad net lower upper driven) p
       (λ r n k t. ap (loadAt net r (at lower r)) (driven-behind net (o .parents) lower r k))
       (λ r n k t. rw t (ap (loadAt net r (at lower r)) (i .held r n k)))
       (λ r n k t. rw t (omega arith))
       (places net - p) p (omega arith) (omega arith) q h m
+
+  -- what a place drives is small
+  pub driven-most : (driven : List ℕ) → DrivenFrom net lower upper 0 driven → (q : ℕ) → q < places net → at driven q ≤ 12900000
+  driven-most driven i q h =
+      omega (
+        arith,
+        i .held q (omega arith) h,
+        behind-le net (o .parents) (heldLoad net lower upper driven) (placeLoad net lower) q (λ r m k. held-less driven 0 i r (omega arith) k),
+        driven-behind net (o .parents) lower q h,
+        driven-small net o l lower low q h,
+      )
 
   pub driving-start : (driven gathered : List ℕ) → places net ≤ length driven → places net < length gathered → ((r : ℕ) → r ≤ places net → at gathered r ≡ 0) → Driving net lower upper (places net) driven gathered
   driving-start driven gathered h k z =
@@ -101,7 +125,7 @@ module _ (net : Net) (o : Ordered net) (l : Limited net) (lower upper : List ℕ
 
     module _ (v : ℕ) (e : v ≡ sinkAt net p + at gathered (suc p)) where
       loads-after : (q : ℕ) → p < q → q < places net → heldLoad net lower upper driven q ≡ heldLoad net lower upper (set driven p v) q
-      loads-after q h m = ap (λ (w : ℕ). cond (free net lower upper q) 0 (loadAt net q (at lower q) w)) (sym (getD-set-other driven p q v 0 (λ k. omega arith)))
+      loads-after q h m = ap (λ (w : ℕ). cond (free lower upper q) 0 (loadAt net q (at lower q) w)) (sym (getD-set-other driven p q v 0 (λ k. omega arith)))
 
       load-here : at (set driven p v) p ≡ v
       load-here = getD-set-same driven p v 0 (omega (arith, i .drives .long))
@@ -140,7 +164,7 @@ module _ (net : Net) (o : Ordered net) (l : Limited net) (lower upper : List ℕ
 
 -- Where no place is free, the places drive what they drive in the sizing.
 module _ (net : Net) (o : Ordered net) (x driven : List ℕ) (i : DrivenFrom net x x 0 driven) where
-  all-held : (q : ℕ) → free net x x q ≡ false
+  all-held : (q : ℕ) → free x x q ≡ false
   all-held q = le-ltb (at x q) (at x q) (omega arith)
 
   shows : (q : ℕ) → q < places net → heldLoad net x x driven q ≡ loadAt net q (at x q) (sinkAt net q + behind net (heldLoad net x x driven) q)
@@ -153,8 +177,8 @@ module _ (net : Net) (o : Ordered net) (x driven : List ℕ) (i : DrivenFrom net
   loads-same q h =
       omega (
         arith,
-        less-all net (o .parents) (free net x x) (at x) (placeLoad net x) (heldLoad net x x driven) (λ r m t. places-show r m) (λ r m t. shows r m) (λ r m t. absurd (false≢true (sym (all-held r) ∙ t))) q h,
-        less-all net (o .parents) (free net x x) (at x) (heldLoad net x x driven) (placeLoad net x) (λ r m t. shows r m) (λ r m t. places-show r m) (λ r m t. absurd (false≢true (sym (all-held r) ∙ t))) q h,
+        less-all net (o .parents) (free x x) (at x) (placeLoad net x) (heldLoad net x x driven) (λ r m t. places-show r m) (λ r m t. shows r m) (λ r m t. absurd (false≢true (sym (all-held r) ∙ t))) q h,
+        less-all net (o .parents) (free x x) (at x) (heldLoad net x x driven) (placeLoad net x) (λ r m t. shows r m) (λ r m t. places-show r m) (λ r m t. absurd (false≢true (sym (all-held r) ∙ t))) q h,
       )
 
   pub driven-all : (q : ℕ) → q < places net → at driven q ≡ drivenLoad net x q

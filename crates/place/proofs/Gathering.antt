@@ -3,66 +3,41 @@ use mathlib.Core.Path.{_≡_, refl, sym, ap, _∙_}
 use mathlib.Core.Bool.{Bool, true, false, cond}
 use mathlib.Core.List.{List}
 use Prim.Native.Nat.{ℕ, suc, _+_, _*_, _≤_, _<_}
-use native.Mathlib.Decide.{ℕ-discrete, decLe}
+use native.Mathlib.Decide.{ℕ-discrete}
 use native.Mathlib.Omega.{arith}
-use borrow.Author.Tests.{lt-ltb, le-ltb, eqb-true, eq-eqb, ne-eqb}
-use lib.Dec.{eqb, ltb}
+use borrow.Author.Tests.{eq-eqb, ne-eqb}
+use lib.Dec.{eqb}
 use lib.ListN.{length, set, length-set}
 use lib.Seq.{getD-set-same, getD-set-other}
 use Rattle.lattice.specs.Lists.{at, sum}
-use Rattle.net.proofs.Sum.{sum-same, sum-add, sum-zero, sum-bounded}
 use Rattle.place.specs.Held.{gatheredFrom, GatheredFrom}
-use Rattle.place.proofs.Held.{sum-at}
+use Rattle.place.proofs.After.{after-none, after-step, after-same, after-whole, after-small}
 
 module _ (n : ℕ) (node : ℕ → ℕ) where
-  -- none from n on
-  pub gathered-none : (f : ℕ → ℕ) (r : ℕ) → gatheredFrom n node f n r ≡ 0
-  unfolding gatheredFrom
-  gathered-none f r = sum-zero n _ (λ q h. rw (lt-ltb q n h))
+  abbrev term : (ℕ → ℕ) → ℕ → ℕ → ℕ
+  term f r q = cond (eqb (node q) r) (f q) 0
 
   -- with place p, where f and g agree after it
   gathered-more : (f g : ℕ → ℕ) (p r : ℕ) → p < n → ((q : ℕ) → p < q → q < n → f q ≡ g q)
       → gatheredFrom n node g p r ≡ gatheredFrom n node f (suc p) r + cond (eqb (node p) r) (g p) 0
-  unfolding gatheredFrom
   gathered-more f g p r h e =
-      sum-same n _ (λ q. cond (ltb q (suc p)) 0 (cond (eqb (node q) r) (f q) 0) + cond (eqb q p) (cond (eqb (node q) r) (g q) 0) 0)
-      (λ q l. go q l (ℕ-discrete q p) (decLe q p))
-      ∙ sum-add n _ _
-      ∙ ap (λ (s : ℕ). sum n (λ q. cond (ltb q (suc p)) 0 (cond (eqb (node q) r) (f q) 0)) + s) (sum-at n p (λ q. cond (eqb (node q) r) (g q) 0) h)
-    where
-      go : (q : ℕ) → q < n → Dec (q ≡ p) → Dec (q ≤ p) → cond (ltb q p) 0 (cond (eqb (node q) r) (g q) 0)
-          ≡ cond (ltb q (suc p)) 0 (cond (eqb (node q) r) (f q) 0) + cond (eqb q p) (cond (eqb (node q) r) (g q) 0) 0
-      go q l (yes d) k =
-          let a : p ≤ q = omega arith in let b : q < suc p = omega arith in
-          rw (le-ltb q p a, lt-ltb q (suc p) b, eq-eqb q p d) (omega arith)
-      go q l (no d) (yes k) =
-          let a : q < p = omega arith in let b : q < suc p = omega arith in
-          rw (lt-ltb q p a, lt-ltb q (suc p) b, ne-eqb q p d)
-      go q l (no d) (no k) =
-          let a : p ≤ q = omega arith in let b : suc p ≤ q = omega arith in
-          rw (le-ltb q p a, le-ltb q (suc p) b, ne-eqb q p d, e q b l) (omega arith)
+      after-step n (term g r) p h
+      ∙ ap (λ (s : ℕ). s + cond (eqb (node p) r) (g p) 0) (after-same n (term g r) (term f r) (suc p) (λ q l m. ap (λ (v : ℕ). cond (eqb (node q) r) v 0) (sym (e q l m))))
 
   -- the places before p hang elsewhere
   pub gathered-all : (f : ℕ → ℕ) (p r : ℕ) → ((q : ℕ) → q < p → q < n → node q ≡ r → ⊥) → sum n (λ q. cond (eqb (node q) r) (f q) 0) ≡ gatheredFrom n node f p r
-  unfolding gatheredFrom
-  gathered-all f p r none = sum-same n _ _ (λ q h. go q h (decLe (suc q) p))
-    where
-      go : (q : ℕ) → q < n → Dec (suc q ≤ p) → cond (eqb (node q) r) (f q) 0 ≡ cond (ltb q p) 0 (cond (eqb (node q) r) (f q) 0)
-      go q h (yes k) = rw (lt-ltb q p k, ne-eqb (node q) r (none q k h))
-      go q h (no k) = let a : p ≤ q = omega arith in rw (le-ltb q p a)
+  gathered-all f p r none = after-whole n (term f r) p (λ q h m. rw (ne-eqb (node q) r (none q h m)))
 
   -- n places of at most b
   pub gathered-small : (f : ℕ → ℕ) (p r b : ℕ) → ((q : ℕ) → p ≤ q → q < n → f q ≤ b) → gatheredFrom n node f p r ≤ n * b
-  unfolding gatheredFrom
-  gathered-small f p r b most = sum-bounded n b _ (λ q h. go q h (eqb (node q) r) (decLe (suc q) p))
+  gathered-small f p r b most = after-small n (term f r) p b (λ q h m. go (eqb (node q) r) (f q) (most q h m))
     where
-      go : (q : ℕ) → q < n → (t : Bool) → Dec (suc q ≤ p) → cond (ltb q p) 0 (cond t (f q) 0) ≤ b
-      go q h t (yes k) = rw (lt-ltb q p k) (omega arith)
-      go q h true (no k) = let a : p ≤ q = omega arith in rw (le-ltb q p a) (most q a h)
-      go q h false (no k) = let a : p ≤ q = omega arith in rw (le-ltb q p a) (omega arith)
+      go : (t : Bool) (v : ℕ) → v ≤ b → cond t v 0 ≤ b
+      go true v h = h
+      go false v h = omega arith
 
   pub gathering-start : (f : ℕ → ℕ) (gathered : List ℕ) → n < length gathered → ((r : ℕ) → r ≤ n → at gathered r ≡ 0) → GatheredFrom n node f n gathered
-  gathering-start f gathered h z = record { long = h; held = λ r l. z r l ∙ sym (gathered-none f r) }
+  gathering-start f gathered h z = record { long = h; held = λ r l. z r l ∙ sym (after-none n (term f r)) }
 
   module _ (f g : ℕ → ℕ) (p : ℕ) (gathered : List ℕ) (few : p < n) (same : (q : ℕ) → p < q → q < n → f q ≡ g q) (i : GatheredFrom n node f (suc p) gathered) where
     -- the place shows nothing

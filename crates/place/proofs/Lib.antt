@@ -5,5 +5,6 @@ pub mod Behind
 pub mod Held
 pub mod OnePlace
 pub mod Upstream
+pub mod After
 pub mod Gathering
 pub mod Driving

@@ -26,9 +26,13 @@ sinkAt net p = cond (ltb p (net .stages)) 0 (net .sink (p - net .stages))
 unfoldable pub slope : Net → ℕ → ℕ → ℕ
 slope net p k = placeWeight net p * cond (ltb p (net .stages)) (net .driverResistance k) (2 * net .wireResistance (p - net .stages) k)
 
--- Of the n places those from p on whose node is r: the sum of f.
-unfoldable pub gatheredFrom : ℕ → (ℕ → ℕ) → (ℕ → ℕ) → ℕ → ℕ → ℕ
-gatheredFrom n node f p r = sum n (λ q. cond (ltb q p) 0 (cond (eqb (node q) r) (f q) 0))
+-- The sum of f over those of the n places that stand from p on.
+unfoldable pub sumAfter : ℕ → (ℕ → ℕ) → ℕ → ℕ
+sumAfter n f p = sum n (λ q. cond (ltb q p) 0 (f q))
+
+-- The same over those whose node is r.
+abbrev pub gatheredFrom : ℕ → (ℕ → ℕ) → (ℕ → ℕ) → ℕ → ℕ → ℕ
+gatheredFrom n node f p r = sumAfter n (λ q. cond (eqb (node q) r) (f q) 0) p
 
 -- `gathered` has these sums for the nodes up to n.
 pub record GatheredFrom (n : ℕ) (node f : ℕ → ℕ) (p : ℕ) (gathered : List ℕ) : Type 0 where
@@ -40,14 +44,14 @@ unfoldable pub before : (ℕ → ℕ) → ℕ → ℕ
 before f zero = 0
 before f (suc p) = f p
 
-module _ (net : Net) (lower upper : List ℕ) where
-  -- Has place p more than one index?
-  abbrev pub free : ℕ → Bool
-  free p = ltb (at lower p) (at upper p)
+-- Has place p more than one index between the bounds?
+abbrev pub free : List ℕ → List ℕ → ℕ → Bool
+free lower upper p = ltb (at lower p) (at upper p)
 
+module _ (net : Net) (lower upper : List ℕ) where
   -- The load that place p shows where it drives what `driven` says: a free place shows none yet.
   abbrev pub heldLoad : List ℕ → ℕ → ℕ
-  heldLoad driven p = cond (free p) 0 (loadAt net p (at lower p) (at driven p))
+  heldLoad driven p = cond (free lower upper p) 0 (loadAt net p (at lower p) (at driven p))
 
   -- `driven` has what the places from p on drive.
   pub record DrivenFrom (p : ℕ) (driven : List ℕ) : Type 0 where
@@ -57,7 +61,7 @@ module _ (net : Net) (lower upper : List ℕ) where
   -- What the delay grows by with each unit of load behind place a, through it and the places before it: nothing through a free place, and
   -- nothing beyond a stage, which shows its gate.
   abbrev pub onward : List ℕ → ℕ → ℕ
-  onward upstream a = cond (free a) 0 (slope net a (at lower a) + cond (ltb a (net .stages)) 0 (at upstream a))
+  onward upstream a = cond (free lower upper a) 0 (slope net a (at lower a) + cond (ltb a (net .stages)) 0 (at upstream a))
 
   -- `upstream` has the weighted upstream resistances of the places before p: what the delay grows by with each unit of load that a place shows.
   pub record UpstreamTo (p : ℕ) (upstream : List ℕ) : Type 0 where

@@ -1,132 +1,156 @@
--- What the calls of the search ask, from its own state: x, its loads and the delay so far at the place before `left`.
-use mathlib.Core.Path.{_≡_, refl, ap, _∙_}
+-- What the calls of the search ask, from its own state at the free place before `left`.
+use mathlib.Core.Path.{_≡_, ap, _∙_}
+use mathlib.Core.Bool.{Bool, true, false, cond}
 use mathlib.Core.List.{List}
 use Prim.Native.Nat.{ℕ, suc, _+_, _*_, _-_, _^_, _≤_, _<_}
+use native.Mathlib.Nat.{mul-le-mul-right}
+use native.Mathlib.Numerals.{add-one}
 use native.Mathlib.Omega.{arith}
 use lib.ListN.{length, set}
 use Rattle.lattice.specs.Lists.{at}
 use Rattle.lattice.specs.Space.{Allowed}
-use Rattle.lattice.specs.Search.{Found, take, takes, cover}
+use Rattle.lattice.specs.Search.{Found, take}
 use Rattle.net.specs.declared.Counts.{Counts}
 use Rattle.net.specs.Net.{Net, places, netBy}
 use Rattle.net.specs.Delay.{delay}
 use Rattle.net.specs.Sizings.{allowed}
-use Rattle.net.specs.Places.{placeWeight, delayAt, loadAt, drivenLoad, delayFrom, LoadsFrom}
-use Rattle.net.proofs.Places.{delayFrom-all}
+use Rattle.net.specs.Places.{placeWeight, delayAt, loadAt, drivenLoad, placeLoad}
 use Rattle.net.proofs.Questions.{ordered, limited, place-cases, allowed-iff}
 use Rattle.place.specs.declared.PlaceStep.{PlaceStep}
-use Rattle.place.specs.Partial.{drivenBy, StepOf}
-use Rattle.place.proofs.LinkedSums.{driven-is}
+use Rattle.place.specs.Partial.{StepOf}
+use Rattle.place.specs.Held.{free}
 use Rattle.place.proofs.Weights.{placeWeight-small}
+use Rattle.place.proofs.Upstream.{upstream-most}
+use Rattle.place.proofs.Driving.{driven-small, load-most as place-load-most}
+use Rattle.place.proofs.Gathering.{gathered-small}
 use Rattle.envelope.specs.Kept.{found}
-use Rattle.search.specs.Searching.{Prepared, Sized, Searched}
-use Rattle.search.proofs.Turns.{driven-small, from-fits, Turning, turning-start, reached, turn-ready, turn-done, turning-end}
+use Rattle.search.specs.Searching.{freeLoad, Prepared, Sized, Searched}
+use Rattle.search.proofs.Apart.{ups-fall}
+use Rattle.search.proofs.Tables.{skip-le, skip-free}
+use Rattle.search.proofs.Turns.{Turning, load-is, turning-start, highs, reached-fits, complete, turn-ready, turn-done, taken-done, passed-done, turning-end}
 
 pub allowed-long : (net : Net) (x : List ℕ) → Allowed (allowed net) x → length x ≡ places net
 allowed-long net x a = allowed-iff net x .0 a .long
 
-module _ {c : Counts} {job first next weights lower upper : List ℕ} (k : Prepared c job first next weights lower upper)
-    {left added : ℕ} {x loads lean wide : List ℕ} (s : Sized (netBy c job) left added x loads lean wide) (least : ℕ) where
-  -- no place is left: x itself is taken
-  pub leaf : (f : Found) → left ≡ 0 → f ≡ take x added (found least lean wide) → Searched (netBy c job) lower upper left x loads (found least lean wide) x loads f
-  unfolding cover takes
-  leaf f e g =
-      record {
-        found = g ∙ ap (λ d. take x d (found least lean wide)) delays ∙ rw e;
-        allowed = s .allowed;
-        same = λ q h i. refl;
-        sameLoads = λ q h. refl;
-      }
+module _ {c : Counts} {job weights upstream driven ups skips lower upper : List ℕ} (r : Prepared c job weights upstream driven ups skips lower upper)
+    {left added : ℕ} {x gathered lean wide : List ℕ} (s : Sized (netBy c job) lower upper upstream driven ups left added x gathered lean wide) (least : ℕ)
+    (some : 0 < left) (frees : free lower upper (left - 1) ≡ true) where
+  pub few : left - 1 < places (netBy c job)
+  few = omega (arith, s .few, some)
+
+  start : Sized (netBy c job) lower upper upstream driven ups (suc (left - 1)) added x gathered lean wide
+  start = let e : left ≡ suc (left - 1) = omega (arith, some) in rw e at s
+
+  -- the load that the place drives
+  pub load-value : at driven (left - 1) + at gathered (left - 1 + 1) ≡ drivenLoad (netBy c job) x (left - 1)
+  load-value = rw (add-one (left - 1)) (load-is r (left - 1) few frees (found least lean wide) start)
+
+  pub load-most : at driven (left - 1) + at gathered (left - 1 + 1) ≤ 12900000
+  load-most = rw load-value (driven-small (netBy c job) (ordered (r .checked)) (limited (r .checked)) x (s .allowed) (left - 1) few)
+
+  weight-value : at weights (left - 1) ≡ placeWeight (netBy c job) (left - 1)
+  weight-value = r .weighed .held (left - 1) (omega arith) few
+
+  pub weight-most : at weights (left - 1) ≤ 32640
+  weight-most = rw weight-value (placeWeight-small (netBy c job) (ordered (r .checked)) (limited (r .checked)) (left - 1) few)
+
+  pub resistance-most : at upstream (left - 1) ≤ 443904000000
+  resistance-most =
+      omega (
+        arith,
+        upstream-most (netBy c job) (ordered (r .checked)) (limited (r .checked)) lower upper (r .lowerAllowed) upstream (places (netBy c job)) (r .known) (left - 1) few few,
+        few,
+        r .checked .fewStages,
+        r .checked .fewSegments,
+      )
+
+  -- where the load of the place arrives
+  pub node-low : at ups (left - 1) ≤ left - 1
+  node-low = ups-fall (netBy c job) (ordered (r .checked)) lower upper ups (places (netBy c job)) (r .lifted) (suc (left - 1)) (left - 1) (omega arith) few few
+
+  -- what has arrived there is small
+  pub others-small : at gathered (at ups (left - 1)) ≤ 884000000
+  others-small =
+      omega (
+        arith,
+        s .gathers .held (at ups (left - 1)) (omega (arith, node-low, few)),
+        gathered-small (places (netBy c job)) (at ups) (freeLoad (netBy c job) lower upper x) left (at ups (left - 1)) 13000000 (λ q h m. go q m (free lower upper q)),
+        mul-le-mul-right 13000000 places-few,
+      )
     where
-      delays : added ≡ delay (netBy c job) x
-      delays = s .adds ∙ ap (delayFrom (netBy c job) x) e ∙ delayFrom-all (netBy c job) x (ordered (k .checked) .parents)
+      places-few : places (netBy c job) ≤ 68
+      places-few = omega (arith, r .checked .fewStages, r .checked .fewSegments)
 
-  module _ (some : left ≡ 0 → ⊥) where
-    pub few : left - 1 < places (netBy c job)
-    few = omega (arith, s .few, some)
+      go : (q : ℕ) → q < places (netBy c job) → (b : Bool) → cond b (placeLoad (netBy c job) x q) 0 ≤ 13000000
+      go q m true =
+          place-load-most (netBy c job) (limited (r .checked)) q (at x q) (drivenLoad (netBy c job) x q) m (allowed-iff (netBy c job) x .0 (s .allowed) .high q m)
+          (driven-small (netBy c job) (ordered (r .checked)) (limited (r .checked)) x (s .allowed) q m)
+      go q m false = omega arith
 
-    pub start : Sized (netBy c job) (left - 1 + 1) added x loads lean wide
-    start = let e : left - 1 + 1 ≡ left = omega (arith, some) in rw e s
+  -- the places left after this one
+  pub rest-low : at skips (left - 1) ≤ left - 1
+  rest-low = skip-le lower upper (places (netBy c job)) skips (r .skipped) (left - 1) (omega (arith, few))
 
-    loaded : LoadsFrom (netBy c job) x (suc (left - 1)) loads
-    loaded = let e : left ≡ suc (left - 1) = omega (arith, some) in rw e at (s .loaded)
+  pub rest-free : (at skips (left - 1) ≡ 0 → ⊥) → free lower upper (at skips (left - 1) - 1) ≡ true
+  rest-free n = skip-free lower upper (places (netBy c job)) skips (r .skipped) (left - 1) (omega (arith, few)) n
 
-    -- the load that the place drives
-    pub driven-value : drivenBy (netBy c job) first next loads (left - 1) ≡ drivenLoad (netBy c job) x (left - 1)
-    driven-value = driven-is (netBy c job) (ordered (k .checked) .parents) first next loads (k .linked) x (left - 1) few loaded
+  -- an index is small
+  pub small : at upper (left - 1) < 16
+  small =
+      let h = place-cases c job (λ q. netBy c job .highest q < 16)
+      (λ q i. omega (arith, r .checked .sized q i, r .checked .fewSizes)) (λ i j. omega (arith, r .checked .wired i j, r .checked .fewWidths)) (left - 1) few in
+      omega (arith, h, allowed-iff (netBy c job) upper .0 (r .upperAllowed) .high (left - 1) few)
 
-    pub driven-most : drivenLoad (netBy c job) x (left - 1) ≤ 12900000
-    driven-most = driven-small (netBy c job) (ordered (k .checked)) (limited (k .checked)) x (s .allowed) (left - 1) few
+  pub begin : Turning (netBy c job) lower upper (left - 1) x (found least lean wide) x (at lower (left - 1)) (found least lean wide)
+  begin = turning-start r (left - 1) few frees (found least lean wide) start
 
-    pub weight-value : at weights (left - 1) ≡ placeWeight (netBy c job) (left - 1)
-    weight-value = k .weighed .held (left - 1) (omega arith) few
+  -- the loop at the index k of y, and what was found
+  module _ {y : List ℕ} {k : ℕ} {f : Found} (t : Turning (netBy c job) lower upper (left - 1) x (found least lean wide) y k f) (inside : k ≤ at upper (left - 1)) where
+    pub high : k ≤ netBy c job .highest (left - 1)
+    high = highs r (left - 1) few frees (found least lean wide) start t inside
 
-    pub weight-most : at weights (left - 1) ≤ 32640
-    weight-most = rw weight-value (placeWeight-small (netBy c job) (ordered (k .checked)) (limited (k .checked)) (left - 1) few)
+    module _ (step : PlaceStep) (of : StepOf (netBy c job) (at weights (left - 1)) (at upstream (left - 1)) (left - 1) k (at driven (left - 1) + at gathered (left - 1 + 1)) step) where
+      step-delay : added + step .delay .0
+          ≡ added + (placeWeight (netBy c job) (left - 1) * delayAt (netBy c job) (left - 1) k (drivenLoad (netBy c job) x (left - 1))
+          + at upstream (left - 1) * loadAt (netBy c job) (left - 1) k (drivenLoad (netBy c job) x (left - 1)))
+      step-delay = ap (λ (v : ℕ). added + v) (of .delay ∙ rw (weight-value, load-value))
 
-    -- an index between the bounds is in its range
-    pub low : netBy c job .lowest (left - 1) ≤ at lower (left - 1)
-    low = allowed-iff (netBy c job) lower .0 (k .lowerAllowed) .low (left - 1) few
+      step-load : step .load .0 ≡ loadAt (netBy c job) (left - 1) k (drivenLoad (netBy c job) x (left - 1))
+      step-load = of .load ∙ rw load-value
 
-    pub high : at upper (left - 1) ≤ netBy c job .highest (left - 1)
-    high = allowed-iff (netBy c job) upper .0 (k .upperAllowed) .high (left - 1) few
+      pub shown-small : step .load .0 ≤ 13000000
+      shown-small = rw step-load (place-load-most (netBy c job) (limited (r .checked)) (left - 1) k (drivenLoad (netBy c job) x (left - 1)) few high
+          (driven-small (netBy c job) (ordered (r .checked)) (limited (r .checked)) x (s .allowed) (left - 1) few))
 
-    -- and small
-    pub small : at upper (left - 1) < 16
-    small =
-        let h = place-cases c job (λ q. netBy c job .highest q < 16)
-        (λ q i. omega (arith, k .checked .sized q i, k .checked .fewSizes)) (λ i j. omega (arith, k .checked .wired i j, k .checked .fewWidths)) (left - 1) few in
-        omega (arith, high, h)
+      pub fits : added + step .delay .0 < 2 ^ 63
+      fits = reached-fits r (left - 1) few frees (found least lean wide) start t inside (added + step .delay .0) step-delay
 
-    -- the loop at the index j of y, its loads and what was found
-    module _ {y loads′ : List ℕ} {j : ℕ} {f : Found}
-        (t : Turning (netBy c job) lower upper (left - 1) x loads (at upper (left - 1)) (at lower (left - 1)) (found least lean wide) y loads′ j f)
-        (inside : j ≤ at upper (left - 1)) where
-      lows : netBy c job .lowest (left - 1) ≤ j
-      lows = omega (arith, low, t .low)
+      -- the recursive call
+      pub ready : (d v : ℕ) (gathered′ : List ℕ) → d ≡ added + step .delay .0 → v ≡ at gathered (at ups (left - 1)) + step .load .0
+          → ((w : ℕ) → set gathered′ (at ups (left - 1)) w ≡ set gathered (at ups (left - 1)) w)
+          → Sized (netBy c job) lower upper upstream driven ups (at skips (left - 1)) d (set y (left - 1) k) (set gathered′ (at ups (left - 1)) v) (f .lean) (f .wide)
+      ready d v gathered′ e g same =
+          turn-ready r (left - 1) few frees (found least lean wide) start t inside d (e ∙ step-delay) v gathered′ (g ∙ ap (λ (w : ℕ). at gathered (at ups (left - 1)) + w) step-load) same
 
-      highs : j ≤ netBy c job .highest (left - 1)
-      highs = omega (arith, high)
+      -- the sizing is complete
+      pub whole : at skips (left - 1) ≡ 0 → (d : ℕ) → d ≡ added + step .delay .0 → d ≡ delay (netBy c job) (set y (left - 1) k)
+      whole z d e = complete r (left - 1) few frees (found least lean wide) start t inside d (e ∙ step-delay) z
 
-      module _ (driven : ℕ) (d : driven ≡ drivenBy (netBy c job) first next loads (left - 1)) (r : PlaceStep)
-          (step : StepOf (netBy c job) (at weights (left - 1)) (left - 1) j driven r) where
-        step-delay : r .delay .0 ≡ placeWeight (netBy c job) (left - 1) * delayAt (netBy c job) (left - 1) j (drivenLoad (netBy c job) x (left - 1))
-        step-delay = step .delay ∙ cc (weight-value, d ∙ driven-value)
+      pub taken : at skips (left - 1) ≡ 0 → (d : ℕ) → d ≡ added + step .delay .0 → (f′ : Found) → length (f′ .lean) ≡ length (f .lean) → length (f′ .wide) ≡ length (f .wide)
+          → f′ ≡ take (set y (left - 1) k) d f → Turning (netBy c job) lower upper (left - 1) x (found least lean wide) (set y (left - 1) k) (k + 1) f′
+      taken z d e f′ a b g =
+          taken-done r (left - 1) few frees (found least lean wide) start t inside z a b (g ∙ ap (λ (v : ℕ). take (set y (left - 1) k) v f) (whole z d e))
 
-        step-load : r .load .0 ≡ loadAt (netBy c job) (left - 1) j (drivenLoad (netBy c job) x (left - 1))
-        step-load = step .load ∙ ap (loadAt (netBy c job) (left - 1) j) (d ∙ driven-value)
+      pub passed : at skips (left - 1) ≡ 0 → (d : ℕ) → d ≡ added + step .delay .0 → f .least < d → Turning (netBy c job) lower upper (left - 1) x (found least lean wide) y (k + 1) f
+      passed z d e h = passed-done r (left - 1) few frees (found least lean wide) start t inside z (omega (arith, whole z d e, h))
 
-        y-allowed : Allowed (allowed (netBy c job)) (set y (left - 1) j)
-        y-allowed = turn-ready (netBy c job) (ordered (k .checked)) lower upper (left - 1) few x loads (at upper (left - 1)) (at lower (left - 1)) (found least lean wide) added start y loads′ j f t lows highs _ _ refl refl .allowed
+    pub done : {x′ gathered′ gathered″ : List ℕ} (f′ : Found) → length (f′ .lean) ≡ length (f .lean) → length (f′ .wide) ≡ length (f .wide)
+        → Searched (netBy c job) lower upper (at skips (left - 1)) (set y (left - 1) k) gathered′ f x′ gathered″ f′
+        → Turning (netBy c job) lower upper (left - 1) x (found least lean wide) x′ (k + 1) f′
+    done f′ a b g = turn-done r (left - 1) few frees (found least lean wide) start t inside a b g
 
-        -- the delay with the step fits
-        pub fits : added + r .delay .0 < 2 ^ 63
-        fits =
-            omega (
-              arith,
-              step-delay,
-              reached (netBy c job) (ordered (k .checked)) lower upper (left - 1) few x loads (at upper (left - 1)) (at lower (left - 1)) (found least lean wide) added start y loads′ j f t lows highs,
-              from-fits (netBy c job) (ordered (k .checked)) (limited (k .checked)) (set y (left - 1) j) y-allowed (left - 1) (omega (arith, few)),
-            )
-
-        pub ready : (a : ℕ) → a ≡ added + r .delay .0 → Sized (netBy c job) (left - 1) a (set y (left - 1) j) (set loads′ (left - 1) (r .load .0)) (f .lean) (f .wide)
-        ready a e =
-            turn-ready (netBy c job) (ordered (k .checked)) lower upper (left - 1) few x loads (at upper (left - 1)) (at lower (left - 1)) (found least lean wide) added start y loads′ j f t lows highs
-            a (r .load .0) (e ∙ ap (λ (n : ℕ). added + n) step-delay) step-load
-
-      pub done : (v : ℕ) (x′ loads″ : List ℕ) (f′ : Found) → length loads″ ≡ length (set loads′ (left - 1) v) → length (f′ .lean) ≡ length (f .lean)
-          → length (f′ .wide) ≡ length (f .wide) → Searched (netBy c job) lower upper (left - 1) (set y (left - 1) j) (set loads′ (left - 1) v) f x′ loads″ f′
-          → Turning (netBy c job) lower upper (left - 1) x loads (at upper (left - 1)) (at lower (left - 1)) (found least lean wide) x′ loads″ (j + 1) f′
-      done v x′ loads″ f′ a b e r =
-          turn-done (netBy c job) (ordered (k .checked)) lower upper (left - 1) few x loads (at upper (left - 1)) (at lower (left - 1)) (found least lean wide) added start y loads′ j f t lows highs
-          v x′ loads″ f′ inside a b e r
-
-    pub begin : Turning (netBy c job) lower upper (left - 1) x loads (at upper (left - 1)) (at lower (left - 1)) (found least lean wide) x loads (at lower (left - 1)) (found least lean wide)
-    begin = turning-start (netBy c job) (ordered (k .checked)) lower upper (left - 1) few x loads (at upper (left - 1)) (at lower (left - 1)) (found least lean wide) added start
-
-    pub ended : {y loads′ : List ℕ} {j : ℕ} {f : Found}
-        → Turning (netBy c job) lower upper (left - 1) x loads (at upper (left - 1)) (at lower (left - 1)) (found least lean wide) y loads′ j f
-        → at upper (left - 1) < j → Searched (netBy c job) lower upper left x loads (found least lean wide) y loads′ f
-    ended {y} {loads′} {j} {f} t h =
-        let e : left - 1 + 1 ≡ left = omega (arith, some) in
-        rw e at (turning-end (netBy c job) (ordered (k .checked)) lower upper (left - 1) few x loads (at upper (left - 1)) (at lower (left - 1)) (found least lean wide) added start refl refl y loads′ j f t h)
+  pub ended : {y : List ℕ} {k : ℕ} {f : Found} (gathered′ : List ℕ) → Turning (netBy c job) lower upper (left - 1) x (found least lean wide) y k f → at upper (left - 1) < k → gathered′ ≡ gathered
+      → Searched (netBy c job) lower upper left x gathered (found least lean wide) y gathered′ f
+  ended {y} {k} {f} gathered′ t h e =
+      let z : suc (left - 1) ≡ left = omega (arith, some) in
+      rw z at (turning-end r (left - 1) few frees (found least lean wide) start gathered′ t h e)

@@ -1,2 +1,4 @@
+pub mod Apart
+pub mod Tables
 pub mod Turns
 pub mod Calls

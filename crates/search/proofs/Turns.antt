@@ -1,100 +1,97 @@
--- The turns of the search's loop over the indices of one place: what each asks, and what it yields.
+-- The turns of the search's loops over the indices of one free place: what each asks, and what it yields.
 use mathlib.Core.Path.{_≡_, refl, sym, ap, _∙_}
 use mathlib.Core.Logic.{⊎-elim}
+use mathlib.Core.Bool.{Bool, true, false, cond, true≢false}
 use mathlib.Core.List.{List, flatMap}
 use Prim.Native.Nat.{ℕ, zero, suc, _+_, _*_, _-_, _^_, _≤_, _<_}
 use native.Mathlib.Nat.{eq-or-lt-of-le}
-use native.Mathlib.Decide.{decLe}
 use native.Mathlib.Numerals.{add-one}
 use native.Mathlib.Omega.{arith}
-use borrow.Author.Tests.{lt-ltb, le-ltb}
+use borrow.Author.Tests.{lt-ltb, le-ltb, ne-eqb}
+use lib.Dec.{eqb, ltb}
 use lib.ListN.{length, set, length-set}
-use lib.Seq.{getD-set-same, getD-set-other}
+use lib.Seq.{getD-set-same, getD-set-other, set-set, set-getD}
 use Rattle.lattice.specs.Lists.{at, from, span}
 use Rattle.lattice.specs.Space.{Allowed}
-use Rattle.lattice.specs.Search.{Found, takes, cover}
+use Rattle.lattice.specs.Search.{Found, take, takes, cover}
 use Rattle.lattice.proofs.Boxes.{boxed-set}
-use Rattle.lattice.proofs.Searching.{takes-append, cover-same}
-use Rattle.net.specs.Net.{Net, places}
+use Rattle.lattice.proofs.Searching.{cover-same}
+use Rattle.net.specs.declared.Counts.{Counts}
+use Rattle.net.specs.Net.{Net, places, netBy}
 use Rattle.net.specs.Delay.{delay}
 use Rattle.net.specs.Sizings.{allowed}
-use Rattle.net.specs.Places.{placeWeight, delayAt, loadAt, drivenLoad, placeDelay, placeLoad, delayFrom}
-use Rattle.net.specs.Checked.{Ordered, Limited}
-use Rattle.net.proofs.Places.{driven-reads, placeLoad-reads, delayFrom-reads, delayFrom-step, delayFrom-all}
-use Rattle.net.proofs.Bound.{stageLoad-small, branchesLoad-small, delay-fits}
-use Rattle.net.proofs.Questions.{allowed-iff, allowed-ranges}
-use Rattle.search.specs.Searching.{Sized, Searched}
+use Rattle.net.specs.Places.{placeWeight, delayAt, loadAt, drivenLoad, placeDelay, placeLoad}
+use Rattle.net.proofs.Places.{driven-reads, placeLoad-reads, placeDelay-reads}
+use Rattle.net.proofs.Bound.{delay-fits}
+use Rattle.net.proofs.Questions.{ordered, limited, allowed-iff, allowed-ranges}
+use Rattle.place.specs.Held.{free, sumAfter, GatheredFrom}
+use Rattle.place.proofs.After.{after-step, after-same, after-skip, after-le}
+use Rattle.place.proofs.Gathering.{gathered-all, gathering-step}
+use Rattle.search.specs.Searching.{fixedFrom, freeLoad, pricedFrom, Prepared, Sized, Searched}
+use Rattle.search.proofs.Apart.{ups-fall, delay-apart, driven-apart}
+use Rattle.search.proofs.Tables.{skip-le, skip-held, next-index, no-index, cover-skip, one-index}
 
-module _ (net : Net) (o : Ordered net) (l : Limited net) (x : List ℕ) (a : Allowed (allowed net) x) where
-  long : length x ≡ places net
-  long = allowed-iff net x .0 a .long
+-- a larger delay than the least changes nothing
+take-none : (x : List ℕ) (d : ℕ) (f : Found) → f .least < d → f ≡ take x d f
+unfolding take
+take-none x d f h = let l : f .least ≤ d = omega arith in rw (le-ltb d (f .least) l, ne-eqb d (f .least) (λ e. omega arith))
 
-  -- the load that a place drives
-  pub driven-small : (p : ℕ) → p < places net → drivenLoad net x p ≤ 12900000
-  unfolding drivenLoad
-  driven-small p h = go (decLe (suc p) (net .stages))
-    where
-      go : Dec (suc p ≤ net .stages) → drivenLoad net x p ≤ 12900000
-      go (yes m) = rw (lt-ltb p (net .stages) m) (omega (arith, stageLoad-small net o l x (allowed-ranges net x a) p m))
-      go (no m) =
-          let n : net .stages ≤ p = omega arith in
-          rw (le-ltb p (net .stages) n)
-          (omega (arith, l .sinks (p - net .stages) (omega arith), branchesLoad-small net o l x (allowed-ranges net x a) (suc (p - net .stages)) (omega arith)))
-
-  -- what the places from p on add fits
-  from-most : (p : ℕ) → p ≤ places net → delayFrom net x p ≤ delayFrom net x 0
-  from-most zero h = omega arith
-  from-most (suc p) h = omega (arith, from-most p (omega arith), delayFrom-step net x p h)
-
-  pub from-fits : (p : ℕ) → p ≤ places net → delayFrom net x p < 2 ^ 63
-  from-fits p h = omega (arith, from-most p h, delayFrom-all net x (o .parents), delay-fits net o l x (allowed-ranges net x a))
-
--- What the loop knows: the sizings with an index before k are taken, and what stands after p is as it was.
-pub record Turning (net : Net) (lower upper : List ℕ) (p : ℕ) (x₀ loads₀ : List ℕ) (top k₀ : ℕ) (f₀ : Found) (x loads : List ℕ) (k : ℕ) (f : Found) : Type 0 where
-  pub found : takes (delay net) (flatMap (λ j. cover lower upper p (set x₀ p j)) (from k (suc top - k))) f
-      ≡ takes (delay net) (flatMap (λ j. cover lower upper p (set x₀ p j)) (from k₀ (suc top - k₀))) f₀
+-- What a loop knows: the sizings with an index before k are taken, and what stands after p and the held places is as it was.
+pub record Turning (net : Net) (lower upper : List ℕ) (p : ℕ) (x₀ : List ℕ) (f₀ : Found) (x : List ℕ) (k : ℕ) (f : Found) : Type 0 where
+  pub found : takes (delay net) (flatMap (λ j. cover lower upper p (set x₀ p j)) (from k (suc (at upper p) - k))) f ≡ takes (delay net) (cover lower upper (suc p) x₀) f₀
   pub allowed : Allowed (allowed net) x
+  pub held : (q : ℕ) → q < places net → free lower upper q ≡ false → at x q ≡ at lower q
   pub same : (q : ℕ) → p < q → q < places net → at x q ≡ at x₀ q
-  pub sameLoads : (q : ℕ) → p < q → at loads q ≡ at loads₀ q
-  pub room : length loads ≡ length loads₀
   pub leanLong : length (f .lean) ≡ places net
   pub wideLong : length (f .wide) ≡ places net
-  pub low : k₀ ≤ k
+  pub low : at lower p ≤ k
 
--- one index fewer is left
-next-index : (D : List ℕ → ℕ) (g : ℕ → List (List ℕ)) (top k : ℕ) (f : Found) → k ≤ top
-    → takes D (flatMap g (from k (suc top - k))) f ≡ takes D (flatMap g (from (k + 1) (suc top - (k + 1)))) (takes D (g k) f)
-unfolding from flatMap
-next-index D g top k f h =
-    let e : suc top - k ≡ suc (suc top - (k + 1)) = omega arith in
-    rw (e, add-one k) (takes-append D 0 (g k) _ f)
+module _ {c : Counts} {job weights upstream driven ups skips lower upper : List ℕ} (r : Prepared c job weights upstream driven ups skips lower upper)
+    (p : ℕ) (few : p < places (netBy c job)) (frees : free lower upper p ≡ true)
+    {added : ℕ} {x₀ gathered₀ : List ℕ} (f₀ : Found) (start : Sized (netBy c job) lower upper upstream driven ups (suc p) added x₀ gathered₀ (f₀ .lean) (f₀ .wide)) where
+  abbrev net : Net
+  net = netBy c job
 
-no-index : (D : List ℕ → ℕ) (g : ℕ → List (List ℕ)) (top k : ℕ) (f : Found) → top < k → takes D (flatMap g (from k (suc top - k))) f ≡ f
-unfolding from flatMap takes
-no-index D g top k f h = let e : suc top - k ≡ 0 = omega arith in rw e
+  falls : (i : ℕ) → i < net .segments → net .parent i ≤ i
+  falls = ordered (r .checked) .parents
 
-module _ (net : Net) (o : Ordered net) (lower upper : List ℕ) (p : ℕ) (few : p < places net) (x₀ loads₀ : List ℕ) (top k₀ : ℕ) (f₀ : Found) (added : ℕ)
-    (start : Sized net (p + 1) added x₀ loads₀ (f₀ .lean) (f₀ .wide)) where
-  pub turning-start : Turning net lower upper p x₀ loads₀ top k₀ f₀ x₀ loads₀ k₀ f₀
+  x₀-long : length x₀ ≡ places net
+  x₀-long = allowed-iff net x₀ .0 (start .allowed) .long
+
+  -- the load that the place drives
+  pub load-is : at driven p + at gathered₀ (suc p) ≡ drivenLoad (netBy c job) x₀ p
+  load-is =
+      ap (λ (v : ℕ). at driven p + v)
+      (start .gathers .held (suc p) few
+      ∙ sym (gathered-all (places net) (at ups) (freeLoad net lower upper x₀) (suc p) (suc p)
+      (λ q h m e. omega (arith, ups-fall net (ordered (r .checked)) lower upper ups (places net) (r .lifted) (suc q) q (omega arith) m m))))
+      ∙ sym (driven-apart net (ordered (r .checked)) lower upper driven upstream ups (r .drives) (r .known) (r .lifted) x₀ (start .held) p few frees)
+
+  pub turning-start : Turning (netBy c job) lower upper p x₀ f₀ x₀ (at lower p) f₀
+  unfolding cover span
   turning-start =
       record {
         found = refl;
         allowed = start .allowed;
+        held = start .held;
         same = λ q h i. refl;
-        sameLoads = λ q h. refl;
-        room = refl;
         leanLong = start .leanLong;
         wideLong = start .wideLong;
         low = omega arith;
       }
 
-  module _ (x loads : List ℕ) (k : ℕ) (f : Found) (t : Turning net lower upper p x₀ loads₀ top k₀ f₀ x loads k f)
-      (lo : net .lowest p ≤ k) (hi : k ≤ net .highest p) where
+  module _ {x : List ℕ} {k : ℕ} {f : Found} (t : Turning (netBy c job) lower upper p x₀ f₀ x k f) (inside : k ≤ at upper p) where
+    pub lows : netBy c job .lowest p ≤ k
+    lows = omega (arith, allowed-iff net lower .0 (r .lowerAllowed) .low p few, t .low)
+
+    pub highs : k ≤ netBy c job .highest p
+    highs = omega (arith, allowed-iff net upper .0 (r .upperAllowed) .high p few)
+
     abbrev y : List ℕ
     y = set x p k
 
     y-allowed : Allowed (allowed net) y
-    y-allowed = allowed-iff net (set x p k) .1 (boxed-set (places net) _ _ x p k (allowed-iff net x .0 (t .allowed)) lo hi)
+    y-allowed = allowed-iff net (set x p k) .1 (boxed-set (places net) _ _ x p k (allowed-iff net x .0 (t .allowed)) lows highs)
 
     y-here : at y p ≡ k
     y-here = getD-set-same x p k 0 (omega (arith, allowed-iff net x .0 (t .allowed) .long))
@@ -103,77 +100,145 @@ module _ (net : Net) (o : Ordered net) (lower upper : List ℕ) (p : ℕ) (few :
     y-after : (q : ℕ) → suc p ≤ q → q < places net → at y q ≡ at x₀ q
     y-after q h i = getD-set-other x p q k 0 (λ e. omega arith) ∙ t .same q h i
 
+    y-held : (q : ℕ) → q < places net → free lower upper q ≡ false → at y q ≡ at lower q
+    y-held q h e = getD-set-other x p q k 0 (λ g. true≢false (sym frees ∙ ap (free lower upper) (sym g) ∙ e)) ∙ t .held q h e
+
     y-driven : drivenLoad net y p ≡ drivenLoad net x₀ p
-    y-driven = driven-reads net (o .parents) y x₀ p few y-after
+    y-driven = driven-reads net falls y x₀ p few y-after
 
-    -- what the places from p on add, with k at p
-    pub reached : added + placeWeight net p * delayAt net p k (drivenLoad net x₀ p) ≡ delayFrom net y p
-    reached =
-        let a = delayFrom-step net y p few in
-        let b = delayFrom-reads net (o .parents) y x₀ (suc p) y-after in
-        let c = start .adds ∙ ap (delayFrom net x₀) (add-one p) in
-        let d : placeDelay net y p ≡ placeWeight net p * delayAt net p k (drivenLoad net x₀ p) = cc (y-here, y-driven) in
-        omega arith
-
-    -- the recursive call may be made
-    pub turn-ready : (d v : ℕ) → d ≡ added + placeWeight net p * delayAt net p k (drivenLoad net x₀ p) → v ≡ loadAt net p k (drivenLoad net x₀ p)
-        → Sized net p d y (set loads p v) (f .lean) (f .wide)
-    turn-ready d v e g =
-        record {
-          few = omega arith;
-          allowed = y-allowed;
-          room = omega (arith, length-set loads p v, t .room, start .room);
-          loaded = record { held = held };
-          adds = e ∙ reached;
-          leanLong = t .leanLong;
-          wideLong = t .wideLong;
-        }
+    -- what the free places from p on add, with k at p
+    priced : pricedFrom net lower upper upstream y p
+        ≡ pricedFrom net lower upper upstream x₀ (suc p) + (placeWeight net p * delayAt net p k (drivenLoad net x₀ p) + at upstream p * loadAt net p k (drivenLoad net x₀ p))
+    priced =
+        after-step (places net) (λ q. cond (free lower upper q) (placeDelay net y q + at upstream q * placeLoad net y q) 0) p few
+        ∙ cc (
+          after-same (places net) (λ q. cond (free lower upper q) (placeDelay net y q + at upstream q * placeLoad net y q) 0)
+          (λ q. cond (free lower upper q) (placeDelay net x₀ q + at upstream q * placeLoad net x₀ q) 0) (suc p)
+          (λ q h m. rw (placeDelay-reads net falls y x₀ q m (λ s a b. y-after s (omega arith) b), placeLoad-reads net falls y x₀ q m (λ s a b. y-after s (omega arith) b))),
+          here,
+        )
       where
-        held : (q : ℕ) → p ≤ q → q < places net → at (set loads p v) q ≡ placeLoad net y q
-        held q h i =
-            ⊎-elim
-            (λ (n : p ≡ q). rw (← n) (getD-set-same loads p v 0 (omega (arith, t .room, start .room)) ∙ g ∙ sym (cc (y-here, y-driven))))
-            (λ n. getD-set-other loads p q v 0 (λ m. omega arith) ∙ t .sameLoads q n ∙ start .loaded .held q (omega arith) i
-            ∙ sym (placeLoad-reads net (o .parents) y x₀ q i (λ r a b. y-after r (omega arith) b))) (eq-or-lt-of-le h)
+        here : cond (free lower upper p) (placeDelay net y p + at upstream p * placeLoad net y p) 0
+            ≡ placeWeight net p * delayAt net p k (drivenLoad net x₀ p) + at upstream p * loadAt net p k (drivenLoad net x₀ p)
+        here = rw frees (cc (y-here, y-driven))
 
-    -- what it leaves is the loop's state at the next index
-    pub turn-done : (v : ℕ) (x′ loads′ : List ℕ) (f′ : Found) → k ≤ top → length loads′ ≡ length (set loads p v) → length (f′ .lean) ≡ length (f .lean)
-        → length (f′ .wide) ≡ length (f .wide) → Searched net lower upper p y (set loads p v) f x′ loads′ f′
-        → Turning net lower upper p x₀ loads₀ top k₀ f₀ x′ loads′ (k + 1) f′
-    turn-done v x′ loads′ f′ h m leans wides s =
+    module _ (d : ℕ) (e : d ≡ added + (placeWeight (netBy c job) p * delayAt (netBy c job) p k (drivenLoad (netBy c job) x₀ p) + at upstream p * loadAt (netBy c job) p k (drivenLoad (netBy c job) x₀ p))) where
+      -- the places before p that are skipped add nothing
+      reached : d ≡ fixedFrom net lower upper driven 0 + pricedFrom net lower upper upstream y (at skips p)
+      reached =
+          let a = start .adds in
+          let b = priced in
+          let s = after-skip (places net) (λ q. cond (free lower upper q) (placeDelay net y q + at upstream q * placeLoad net y q) 0) (at skips p) p
+          (skip-le lower upper (places net) skips (r .skipped) p (omega arith)) (λ q h m n. rw (skip-held lower upper (places net) skips (r .skipped) p (omega arith) q h m)) in
+          omega arith
+
+      whole : fixedFrom net lower upper driven 0 + pricedFrom net lower upper upstream y 0 ≡ delay net y
+      whole = sym (delay-apart net (ordered (r .checked)) lower upper driven upstream ups (r .drives) (r .known) (r .lifted) y y-held)
+
+      pub reached-fits : d < 2 ^ 63
+      reached-fits =
+          omega (
+            arith,
+            reached,
+            whole,
+            after-le (places net) (λ q. cond (free lower upper q) (placeDelay net y q + at upstream q * placeLoad net y q) 0) (at skips p),
+            delay-fits net (ordered (r .checked)) (limited (r .checked)) y (allowed-ranges net y y-allowed),
+          )
+
+      -- where no free place is left, the sizing is complete
+      pub complete : at skips p ≡ 0 → d ≡ delay (netBy c job) (set x p k)
+      complete z = (rw z at reached) ∙ whole
+
+      -- the recursive call may be made
+      pub turn-ready : (v : ℕ) (gathered : List ℕ) → v ≡ at gathered₀ (at ups p) + loadAt (netBy c job) p k (drivenLoad (netBy c job) x₀ p) → ((w : ℕ) → set gathered (at ups p) w ≡ set gathered₀ (at ups p) w)
+          → Sized (netBy c job) lower upper upstream driven ups (at skips p) d (set x p k) (set gathered (at ups p) v) (f .lean) (f .wide)
+      turn-ready v gathered g same =
+          record {
+            few = omega (arith, skip-le lower upper (places net) skips (r .skipped) p (omega arith));
+            allowed = y-allowed;
+            held = y-held;
+            gathers = rw (same v) skipped;
+            adds = reached;
+            leanLong = t .leanLong;
+            wideLong = t .wideLong;
+          }
+        where
+          here : GatheredFrom (places net) (at ups) (freeLoad net lower upper y) p (set gathered₀ (at ups p) v)
+          here =
+              gathering-step (places net) (at ups) (freeLoad net lower upper x₀) (freeLoad net lower upper y) p gathered₀ few
+              (λ q h m. rw (placeLoad-reads net falls y x₀ q m (λ s a b. y-after s (omega arith) b))) (start .gathers) v
+              (omega (arith, ups-fall net (ordered (r .checked)) lower upper ups (places net) (r .lifted) (suc p) p (omega arith) few few))
+              (g ∙ rw frees (cc (y-here, y-driven)))
+
+          skipped : GatheredFrom (places net) (at ups) (freeLoad net lower upper y) (at skips p) (set gathered₀ (at ups p) v)
+          skipped =
+              record {
+                long = here .long;
+                held = λ s h. here .held s h
+                    ∙ sym (after-skip (places net) (λ q. cond (eqb (at ups q) s) (freeLoad net lower upper y q) 0) (at skips p) p (skip-le lower upper (places net) skips (r .skipped) p (omega arith))
+                    (λ q a b m. rw (skip-held lower upper (places net) skips (r .skipped) p (omega arith) q a b) (none (eqb (at ups q) s))));
+              }
+            where
+              none : (b : Bool) → _≡_ {A = ℕ} (cond b 0 0) 0
+              none true = refl
+              none false = refl
+
+    -- with the sizings of the index k taken
+    next : (x′ : List ℕ) (f′ : Found) → f′ ≡ takes (delay net) (cover lower upper p (set x₀ p k)) f → Allowed (allowed net) x′
+        → ((q : ℕ) → q < places net → free lower upper q ≡ false → at x′ q ≡ at lower q) → ((q : ℕ) → p < q → q < places net → at x′ q ≡ at x₀ q)
+        → length (f′ .lean) ≡ length (f .lean) → length (f′ .wide) ≡ length (f .wide) → Turning net lower upper p x₀ f₀ x′ (k + 1) f′
+    next x′ f′ e a h s leans wides =
         record {
-          found = ap (takes (delay net) _) found-here ∙ sym (next-index (delay net) (λ j. cover lower upper p (set x₀ p j)) top k f h) ∙ t .found;
-          allowed = s .allowed;
-          same = λ q i n. s .same q (omega arith) n ∙ y-after q i n;
-          sameLoads = λ q i. s .sameLoads q (omega arith) ∙ getD-set-other loads p q v 0 (λ e. omega arith) ∙ t .sameLoads q i;
-          room = m ∙ length-set loads p v ∙ t .room;
+          found = ap (takes (delay net) _) e ∙ sym (next-index (delay net) (λ j. cover lower upper p (set x₀ p j)) (at upper p) k f inside) ∙ t .found;
+          allowed = a;
+          held = h;
+          same = s;
           leanLong = leans ∙ t .leanLong;
           wideLong = wides ∙ t .wideLong;
           low = omega (arith, t .low);
         }
-      where
-        y-long : length y ≡ places net
-        y-long = allowed-iff net y .0 y-allowed .long
 
-        z-long : length (set x₀ p k) ≡ places net
-        z-long = length-set x₀ p k ∙ allowed-iff net x₀ .0 (start .allowed) .long
+    y-long : length y ≡ places net
+    y-long = allowed-iff net y .0 y-allowed .long
 
-        agree : (q : ℕ) → p ≤ q → q < places net → at y q ≡ at (set x₀ p k) q
-        agree q i n =
-            ⊎-elim (λ (e : p ≡ q). rw (← e) (y-here ∙ sym (getD-set-same x₀ p k 0 (omega (arith, allowed-iff net x₀ .0 (start .allowed) .long)))))
-            (λ e. y-after q e n ∙ sym (getD-set-other x₀ p q k 0 (λ g. omega arith))) (eq-or-lt-of-le i)
+    agree : (q : ℕ) → p ≤ q → q < places net → at y q ≡ at (set x₀ p k) q
+    agree q i n =
+        ⊎-elim (λ (e : p ≡ q). rw (← e) (y-here ∙ sym (getD-set-same x₀ p k 0 (omega (arith, x₀-long)))))
+        (λ e. y-after q e n ∙ sym (getD-set-other x₀ p q k 0 (λ g. omega arith))) (eq-or-lt-of-le i)
 
-        found-here : f′ ≡ takes (delay net) (cover lower upper p (set x₀ p k)) f
-        found-here = s .found ∙ ap (λ l. takes (delay net) l f) (cover-same lower upper (places net) p y (set x₀ p k) y-long z-long agree)
+    -- the sizings of the index k, by those with the skipped places as they are
+    from-rest : takes (delay net) (cover lower upper (at skips p) y) f ≡ takes (delay net) (cover lower upper p (set x₀ p k)) f
+    from-rest =
+        sym (cover-skip (delay net) lower upper (at skips p) p (skip-le lower upper (places net) skips (r .skipped) p (omega arith)) y f
+        (λ q a b. let h = skip-held lower upper (places net) skips (r .skipped) p (omega arith) q a b in
+        (one-index lower upper q (r .inOrder q (omega arith)) h, y-held q (omega arith) h)))
+        ∙ ap (λ l. takes (delay net) l f) (cover-same lower upper (places net) p y (set x₀ p k) y-long (length-set x₀ p k ∙ x₀-long) agree)
+
+    -- what the recursive call leaves is the loop's state at the next index
+    pub turn-done : {x′ gathered gathered′ : List ℕ} {f′ : Found} → length (f′ .lean) ≡ length (f .lean) → length (f′ .wide) ≡ length (f .wide)
+        → Searched (netBy c job) lower upper (at skips p) (set x p k) gathered f x′ gathered′ f′ → Turning (netBy c job) lower upper p x₀ f₀ x′ (k + 1) f′
+    turn-done {x′} {f′ = f′} leans wides s =
+        next x′ f′ (s .found ∙ from-rest) (s .allowed) (s .held)
+        (λ q h m. s .same q (omega (arith, skip-le lower upper (places net) skips (r .skipped) p (omega arith))) m ∙ y-after q h m) leans wides
+
+    -- a complete sizing is taken, or it has no place among the best
+    pub taken-done : at skips p ≡ 0 → {f′ : Found} → length (f′ .lean) ≡ length (f .lean) → length (f′ .wide) ≡ length (f .wide)
+        → f′ ≡ take (set x p k) (delay (netBy c job) (set x p k)) f → Turning (netBy c job) lower upper p x₀ f₀ (set x p k) (k + 1) f′
+    unfolding cover takes
+    taken-done z {f′} leans wides e = next y f′ (e ∙ (rw z at from-rest)) y-allowed y-held y-after leans wides
+
+    pub passed-done : at skips p ≡ 0 → f .least < delay (netBy c job) (set x p k) → Turning (netBy c job) lower upper p x₀ f₀ x (k + 1) f
+    unfolding cover takes
+    passed-done z h = next x f (take-none y (delay net y) f h ∙ (rw z at from-rest)) (t .allowed) (t .held) (t .same) refl refl
 
   -- past the last index
-  pub turning-end : k₀ ≡ at lower p → top ≡ at upper p → (x loads : List ℕ) (k : ℕ) (f : Found) → Turning net lower upper p x₀ loads₀ top k₀ f₀ x loads k f → top < k
-      → Searched net lower upper (p + 1) x₀ loads₀ f₀ x loads f
-  unfolding cover span
-  turning-end e g x loads k f t h =
+  pub turning-end : {x : List ℕ} {k : ℕ} {f : Found} (gathered : List ℕ) → Turning (netBy c job) lower upper p x₀ f₀ x k f → at upper p < k → gathered ≡ gathered₀
+      → Searched (netBy c job) lower upper (suc p) x₀ gathered₀ f₀ x gathered f
+  turning-end {k = k} {f = f} gathered t h e =
       record {
-        found = sym (no-index (delay net) (λ j. cover lower upper p (set x₀ p j)) top k f h) ∙ t .found ∙ rw (e, g, add-one p);
+        found = sym (no-index (delay net) (λ j. cover lower upper p (set x₀ p j)) (at upper p) k f h) ∙ t .found;
         allowed = t .allowed;
-        same = λ q i n. t .same q (omega arith) n;
-        sameLoads = λ q i. t .sameLoads q (omega arith);
+        held = t .held;
+        same = λ q i n. t .same q i n;
+        gathers = e;
       }

@@ -1,7 +1,9 @@
--- What the search asks of its state, and what it leaves: cited by its contract.
+-- What the search asks of its tables and its state, and what it leaves: cited by the contracts of this crate.
 use mathlib.Core.Path.{_≡_}
+use mathlib.Core.Bool.{Bool, true, false, cond}
 use mathlib.Core.List.{List}
-use Prim.Native.Nat.{ℕ, _≤_, _<_}
+use Prim.Native.Nat.{ℕ, suc, _+_, _*_, _≤_, _<_}
+use lib.Dec.{ltb}
 use lib.ListN.{length}
 use Rattle.lattice.specs.Lists.{at}
 use Rattle.lattice.specs.Space.{Allowed}
@@ -10,32 +12,66 @@ use Rattle.net.specs.declared.Counts.{Counts}
 use Rattle.net.specs.Net.{Net, places, netBy}
 use Rattle.net.specs.Delay.{delay}
 use Rattle.net.specs.Sizings.{allowed}
-use Rattle.net.specs.Places.{delayFrom, LoadsFrom}
+use Rattle.net.specs.Places.{placeWeight, delayAt, drivenLoad, placeDelay, placeLoad}
 use Rattle.net.specs.Checked.{Checked}
-use Rattle.links.specs.Links.{Linked}
 use Rattle.place.specs.Partial.{WeightsFrom}
+use Rattle.place.specs.Held.{hangsAt, before, sumAfter, free, GatheredFrom, DrivenFrom, UpstreamTo}
+
+-- `skips` has, for up to n places, how many of them there are up to the last that is free.
+pub record SkipsTo (lower upper : List ℕ) (n : ℕ) (skips : List ℕ) : Type 0 where
+  pub none : at skips 0 ≡ 0
+  pub held : (q : ℕ) → q < n → at skips (suc q) ≡ cond (free lower upper q) (suc q) (at skips q)
+
+module _ (net : Net) (lower upper : List ℕ) where
+  -- The node at which a load behind place a arrives: a held segment passes it on.
+  abbrev pub arrives : List ℕ → ℕ → ℕ
+  arrives ups a = cond (free lower upper a) (suc a) (cond (ltb a (net .stages)) (suc a) (at ups a))
+
+  -- `ups` has, for the places before p, the node at which the load of a place arrives.
+  pub record UpsTo (p : ℕ) (ups : List ℕ) : Type 0 where
+    pub long : places net ≤ length ups
+    pub held : (q : ℕ) → q < p → q < places net → at ups q ≡ before (arrives ups) (hangsAt net q)
+
+  -- What the held places from p on add to the delay.
+  abbrev pub fixedFrom : List ℕ → ℕ → ℕ
+  fixedFrom driven p = sumAfter (places net) (λ a. cond (free lower upper a) 0 (placeWeight net a * delayAt net a (at lower a) (at driven a))) p
+
+  -- The load that a free place shows.
+  abbrev pub freeLoad : List ℕ → ℕ → ℕ
+  freeLoad x q = cond (free lower upper q) (placeLoad net x q) 0
+
+  -- What the free places from p on add to the delay, with what their loads cost upstream.
+  abbrev pub pricedFrom : List ℕ → List ℕ → ℕ → ℕ
+  pricedFrom upstream x p = sumAfter (places net) (λ q. cond (free lower upper q) (placeDelay net x q + at upstream q * placeLoad net x q) 0) p
 
 -- What stays the same throughout a search.
-pub record Prepared (c : Counts) (job first next weights lower upper : List ℕ) : Type 0 where
+pub record Prepared (c : Counts) (job weights upstream driven ups skips lower upper : List ℕ) : Type 0 where
   pub checked : Checked c job
-  pub linked : Linked (netBy c job) first next
   pub weighed : WeightsFrom (netBy c job) 0 weights
+  pub known : UpstreamTo (netBy c job) lower upper (places (netBy c job)) upstream
+  pub drives : DrivenFrom (netBy c job) lower upper 0 driven
+  pub lifted : UpsTo (netBy c job) lower upper (places (netBy c job)) ups
+  pub skipped : SkipsTo lower upper (places (netBy c job)) skips
   pub lowerAllowed : Allowed (allowed (netBy c job)) lower
   pub upperAllowed : Allowed (allowed (netBy c job)) upper
+  pub inOrder : (q : ℕ) → q < places (netBy c job) → at lower q ≤ at upper q
 
--- The places from `left` on are sized by x: their loads, and what they add to the delay. Both envelopes have an index for each place.
-pub record Sized (net : Net) (left added : ℕ) (x loads lean wide : List ℕ) : Type 0 where
+-- The free places from `left` on are sized by x: where their loads arrive, and what they and all held places add to the delay. Both envelopes
+-- have an index for each place.
+pub record Sized (net : Net) (lower upper upstream driven ups : List ℕ) (left added : ℕ) (x gathered lean wide : List ℕ) : Type 0 where
   pub few : left ≤ places net
   pub allowed : Allowed (allowed net) x
-  pub room : places net ≤ length loads
-  pub loaded : LoadsFrom net x left loads
-  pub adds : added ≡ delayFrom net x left
+  pub held : (q : ℕ) → q < places net → free lower upper q ≡ false → at x q ≡ at lower q
+  pub gathers : GatheredFrom (places net) (at ups) (freeLoad net lower upper x) left gathered
+  pub adds : added ≡ fixedFrom net lower upper driven 0 + pricedFrom net lower upper upstream x left
   pub leanLong : length lean ≡ places net
   pub wideLong : length wide ≡ places net
 
--- Every sizing between the bounds that has the indices of x from `left` on was taken, and what stands from `left` on is as it was.
-pub record Searched (net : Net) (lower upper : List ℕ) (left : ℕ) (x loads : List ℕ) (before : Found) (x′ loads′ : List ℕ) (after : Found) : Type 0 where
+-- Every sizing between the bounds that has the indices of x from `left` on was taken, what stands from `left` on is as it was, and so are the
+-- held places.
+pub record Searched (net : Net) (lower upper : List ℕ) (left : ℕ) (x gathered : List ℕ) (before : Found) (x′ gathered′ : List ℕ) (after : Found) : Type 0 where
   pub found : after ≡ takes (delay net) (cover lower upper left x) before
   pub allowed : Allowed (allowed net) x′
+  pub held : (q : ℕ) → q < places net → free lower upper q ≡ false → at x′ q ≡ at lower q
   pub same : (q : ℕ) → left ≤ q → q < places net → at x′ q ≡ at x q
-  pub sameLoads : (q : ℕ) → left ≤ q → at loads′ q ≡ at loads q
+  pub gathers : gathered′ ≡ gathered

@@ -1,64 +1,231 @@
-// The search between the bounds, place after place, from the last place to the first.
+// The search between the bounds, free place after free place, from the last to the first; a place is free where the bounds leave it more than
+// one index.
 use net::Counts;
+use quantity::Capacitance;
 use quantity::Delay;
+use quantity::Resistance;
+ghost use mathlib.Core.Path.{_≡_};
+ghost use Prim.Native.Nat.{_+_, _-_, _<_, _≤_};
+ghost use mathlib.Core.Bool.{true};
+ghost use lib.ListN.{length};
+ghost use Rattle.lattice.specs.Lists.{at};
+ghost use Rattle.lattice.specs.Space.{Allowed};
 ghost use Rattle.envelope.specs.Kept.{found};
 ghost use Rattle.net.specs.Net.{netBy};
-ghost use Rattle.search.specs.Searching.{Prepared, Sized, Searched};
+ghost use Rattle.net.specs.Sizings.{allowed};
+ghost use Rattle.net.specs.Checked.{Checked};
+ghost use Rattle.place.specs.Partial.{WeightsFrom};
+ghost use Rattle.place.specs.Held.{hangsAt, before, free, DrivenFrom};
+ghost use Rattle.search.specs.Searching.{arrives, UpsTo, SkipsTo, fixedFrom, Prepared, Sized, Searched};
 
-// Takes every sizing that has the indices of x from `left` on and lies between the bounds before it. The loads of the places from `left` on and
-// what they add to the delay are carried along, so that a place costs what its branches cost.
-pub fn search(
+// The node at which a load at `node` arrives, through the held segments above it.
+fn arrival(counts: Counts, lower: &[u8], upper: &[u8], ups: &[usize; 68], job: &[u8], node: usize) -> usize
+    requires { ⌜ Checked counts (now job) ⌝ }
+    requires { ⌜ (counts .stages + counts .segments ≤ length (now lower)) × (counts .stages + counts .segments ≤ length (now upper)) ⌝ }
+    requires { ⌜ node ≤ counts .stages + counts .segments ⌝ }
+    ensures { λ r. ⌜ r ≡ before (arrives (netBy counts (now (job .entry))) (now (lower .entry)) (now (upper .entry)) (now (ups .entry))) node ⌝ }
+{
+    if node <= counts.stages {
+        return node;
+    }
+    let a = node - 1;
+    if lower[a] < upper[a] {
+        return node;
+    }
+    ups[a]
+}
+
+// The nodes at which the loads of the places arrive.
+pub fn lift(job: &[u8], counts: Counts, lower: &[u8], upper: &[u8], ups: &mut [usize; 68])
+    requires { ⌜ Checked counts (now job) ⌝ }
+    requires { ⌜ (counts .stages + counts .segments ≤ length (now lower)) × (counts .stages + counts .segments ≤ length (now upper)) ⌝ }
+    requires { ⌜ counts .stages + counts .segments ≤ length (now ups) ⌝ }
+    ensures { λ r. ⌜ UpsTo (netBy counts (now (job .entry))) (now (lower .entry)) (now (upper .entry)) (counts .stages + counts .segments) (now (ups .exit)) ⌝ }
+{
+    let places = counts.stages + counts.segments;
+    let mut p = 0;
+    while p < places {
+        let node = place::hangs_at(job, counts, p);
+        ups[p] = arrival(counts, lower, upper, ups, job, node);
+        p += 1;
+    }
+}
+
+// Of how many places the last one is free, up to each place.
+pub fn skip(job: &[u8], counts: Counts, lower: &[u8], upper: &[u8], skips: &mut [usize; 69])
+    requires { ⌜ Checked counts (now job) ⌝ }
+    requires { ⌜ (counts .stages + counts .segments ≤ length (now lower)) × (counts .stages + counts .segments ≤ length (now upper)) ⌝ }
+    requires { ⌜ counts .stages + counts .segments < length (now skips) ⌝ }
+    ensures { λ r. ⌜ SkipsTo (now (lower .entry)) (now (upper .entry)) (counts .stages + counts .segments) (now (skips .exit)) ⌝ }
+{
+    let places = counts.stages + counts.segments;
+    skips[0] = 0;
+    let mut p = 0;
+    while p < places {
+        let q = p;
+        p += 1;
+        if lower[q] < upper[q] {
+            skips[p] = p;
+        } else {
+            skips[p] = skips[q];
+        }
+    }
+}
+
+// What the held places add to the delay.
+pub fn fixed_delay(
     job: &[u8],
     counts: Counts,
-    first: &[usize],
-    next: &[usize],
-    weights: &[u64],
+    weights: &[u64; 68],
+    driven: &[u64; 68],
+    lower: &[u8],
+    upper: &[u8],
+) -> Delay
+    requires { ⌜ Checked counts (now job) ⌝ }
+    requires { ⌜ WeightsFrom (netBy counts (now job)) 0 (now weights) ⌝ }
+    requires { ⌜ DrivenFrom (netBy counts (now job)) (now lower) (now upper) 0 (now driven) ⌝ }
+    requires { ⌜ Allowed (allowed (netBy counts (now job))) (now lower) ⌝ }
+    requires { ⌜ counts .stages + counts .segments ≤ length (now upper) ⌝ }
+    ensures { λ r. ⌜ r .0 ≡ fixedFrom (netBy counts (now (job .entry))) (now (lower .entry)) (now (upper .entry)) (now (driven .entry)) 0 ⌝ }
+{
+    let mut sum = Delay(0);
+    let mut p = counts.stages + counts.segments;
+    while p > 0 {
+        p -= 1;
+        if lower[p] >= upper[p] {
+            let load = Capacitance(driven[p]);
+            let step = place::step(job, counts, weights[p], Resistance(0), p, lower[p], load);
+            sum = quantity::add_delay(sum, step.delay);
+        }
+    }
+    sum
+}
+
+// Takes every sizing that has the indices of x but at the place before `left`, the last one that is free.
+fn last(
+    job: &[u8],
+    counts: Counts,
+    weights: &[u64; 68],
+    upstream: &[u64; 68],
+    driven: &[u64; 68],
+    ups: &[usize; 68],
+    skips: &[usize; 69],
     lower: &[u8],
     upper: &[u8],
     left: usize,
     added: Delay,
     x: &mut [u8],
-    loads: &mut [u64],
+    gathered: &[u64; 69],
     least: Delay,
     lean: &mut [u8],
     wide: &mut [u8],
 ) -> Delay
-    requires { ⌜ Prepared counts (now job) (now first) (now next) (now weights) (now lower) (now upper) ⌝ }
-    requires { ⌜ Sized (netBy counts (now job)) left (added .0) (now x) (now loads) (now lean) (now wide) ⌝ }
-    ensures { λ r. ⌜ Searched (netBy counts (now (job .entry))) (now (lower .entry)) (now (upper .entry)) left (now (x .entry)) (now (loads .entry)) (found (least .0) (now (lean .entry)) (now (wide .entry))) (now (x .exit)) (now (loads .exit)) (found (r .0) (now (lean .exit)) (now (wide .exit))) ⌝ }
+    requires { ⌜ Prepared counts (now job) (now weights) (now upstream) (now driven) (now ups) (now skips) (now lower) (now upper) ⌝ }
+    requires { ⌜ Sized (netBy counts (now job)) (now lower) (now upper) (now upstream) (now driven) (now ups) left (added .0) (now x) (now gathered) (now lean) (now wide) ⌝ }
+    requires { ⌜ (0 < left) × (free (now lower) (now upper) (left - 1) ≡ true) × (at (now skips) (left - 1) ≡ 0) ⌝ }
+    ensures { λ r. ⌜ Searched (netBy counts (now (job .entry))) (now (lower .entry)) (now (upper .entry)) left (now (x .entry)) (now (gathered .entry)) (found (least .0) (now (lean .entry)) (now (wide .entry))) (now (x .exit)) (now (gathered .entry)) (found (r .0) (now (lean .exit)) (now (wide .exit))) ⌝ }
 {
-    if left == 0 {
-        return envelope::keep(x, added, least, lean, wide);
-    }
     let p = left - 1;
     let weight = weights[p];
-    let driven = place::driven_load(job, counts, first, next, loads, p);
+    let before = Resistance(upstream[p]);
+    let load = Capacitance(driven[p] + gathered[p + 1]);
     let top = upper[p];
     let mut k = lower[p];
     let mut best = least;
     while k <= top {
-        let step = place::step(job, counts, weight, p, k, driven);
+        let index = k;
+        let step = place::step(job, counts, weight, before, p, index, load);
         let reached = quantity::add_delay(added, step.delay);
-        let load = step.load;
+        k += 1;
+        if reached.0 <= best.0 {
+            x[p] = index;
+            best = envelope::keep(x, reached, best, lean, wide);
+        }
+    }
+    best
+}
+
+// Takes every sizing that has the indices of x from `left` on and lies between the bounds before it, where the place before `left` is free. The
+// loads of the free places from `left` on, each at the node where it arrives, and the delay so far are carried along.
+pub fn search(
+    job: &[u8],
+    counts: Counts,
+    weights: &[u64; 68],
+    upstream: &[u64; 68],
+    driven: &[u64; 68],
+    ups: &[usize; 68],
+    skips: &[usize; 69],
+    lower: &[u8],
+    upper: &[u8],
+    left: usize,
+    added: Delay,
+    x: &mut [u8],
+    gathered: &mut [u64; 69],
+    least: Delay,
+    lean: &mut [u8],
+    wide: &mut [u8],
+) -> Delay
+    requires { ⌜ Prepared counts (now job) (now weights) (now upstream) (now driven) (now ups) (now skips) (now lower) (now upper) ⌝ }
+    requires { ⌜ Sized (netBy counts (now job)) (now lower) (now upper) (now upstream) (now driven) (now ups) left (added .0) (now x) (now gathered) (now lean) (now wide) ⌝ }
+    requires { ⌜ (0 < left) × (free (now lower) (now upper) (left - 1) ≡ true) ⌝ }
+    ensures { λ r. ⌜ Searched (netBy counts (now (job .entry))) (now (lower .entry)) (now (upper .entry)) left (now (x .entry)) (now (gathered .entry)) (found (least .0) (now (lean .entry)) (now (wide .entry))) (now (x .exit)) (now (gathered .exit)) (found (r .0) (now (lean .exit)) (now (wide .exit))) ⌝ }
+{
+    let p = left - 1;
+    let rest = skips[p];
+    if rest == 0 {
+        return last(
+            job,
+            counts,
+            weights,
+            upstream,
+            driven,
+            ups,
+            skips,
+            lower,
+            upper,
+            left,
+            added,
+            x,
+            gathered,
+            least,
+            lean,
+            wide,
+        );
+    }
+    let weight = weights[p];
+    let before = Resistance(upstream[p]);
+    let load = Capacitance(driven[p] + gathered[p + 1]);
+    let node = ups[p];
+    let others = gathered[node];
+    let top = upper[p];
+    let mut k = lower[p];
+    let mut best = least;
+    while k <= top {
+        let step = place::step(job, counts, weight, before, p, k, load);
+        let reached = quantity::add_delay(added, step.delay);
+        let shown = step.load;
         x[p] = k;
-        loads[p] = load.0;
+        gathered[node] = others + shown.0;
         best = search(
             job,
             counts,
-            first,
-            next,
             weights,
+            upstream,
+            driven,
+            ups,
+            skips,
             lower,
             upper,
-            p,
+            rest,
             reached,
             x,
-            loads,
+            gathered,
             best,
             lean,
             wide,
         );
         k += 1;
     }
+    gathered[node] = others;
     best
 }

@@ -1,0 +1,136 @@
+-- A sizing that has the held places' only index: its delay is what these add once for all, and what the free places add with what their loads
+-- cost upstream; and a free place drives what it drives without the others, and the loads of the free places that arrive behind it.
+use mathlib.Core.Path.{_≡_, refl, sym, ap, _∙_}
+use mathlib.Core.Bool.{Bool, true, false, cond, not, true≢false, false≢true}
+use mathlib.Core.List.{List}
+use Prim.Native.Nat.{ℕ, zero, suc, _+_, _*_, _-_, _≤_, _<_}
+use native.Mathlib.Omega.{arith}
+use borrow.Author.Tests.{lt-ltb, le-ltb, eqb-true, ne-eqb}
+use lib.Dec.{eqb, ltb}
+use Rattle.lattice.specs.Lists.{at, sum}
+use Rattle.net.specs.Net.{Net, places}
+use Rattle.net.specs.Delay.{delay}
+use Rattle.net.specs.Places.{placeWeight, delayAt, loadAt, drivenLoad, placeDelay, placeLoad}
+use Rattle.net.specs.Checked.{Ordered}
+use Rattle.net.proofs.Sum.{sum-same, sum-only}
+use Rattle.net.proofs.Places.{places-delay}
+use Rattle.place.specs.Held.{hangsAt, behind, sinkAt, before, sumAfter, free, heldLoad, DrivenFrom, UpstreamTo}
+use Rattle.place.proofs.Behind.{eqb-iff, gather, carried}
+use Rattle.place.proofs.Held.{before-same, hangs-falls, driven-behind, more, behind-more, more-held, apart}
+use Rattle.search.specs.Searching.{arrives, UpsTo, fixedFrom, freeLoad, pricedFrom}
+
+-- a load arrives at no node behind its place
+pub ups-fall : (net : Net) → Ordered net → (lower upper ups : List ℕ) (n : ℕ) → UpsTo net lower upper n ups → (d q : ℕ) → q < d → q < n → q < places net → at ups q ≤ q
+unfolding before
+ups-fall net o lower upper ups n u zero q h k m = absurd (omega arith)
+ups-fall net o lower upper ups n u (suc d) q h k m =
+    rw (u .held q k m) (go (hangsAt net q) (hangs-falls net (o .parents) q m) (λ a l. ups-fall net o lower upper ups n u d a (omega arith) (omega arith) (omega arith)))
+  where
+    go : (r : ℕ) → r ≤ q → ((a : ℕ) → a < q → at ups a ≤ a) → before (arrives net lower upper ups) r ≤ q
+    go zero l rest = omega arith
+    go (suc a) l rest = cases (free lower upper a) (ltb a (net .stages))
+      where
+        cases : (b t : Bool) → cond b (suc a) (cond t (suc a) (at ups a)) ≤ q
+        cases true t = l
+        cases false true = l
+        cases false false = omega (arith, rest a l)
+
+module _ (net : Net) (o : Ordered net) (lower upper driven upstream ups : List ℕ) (d : DrivenFrom net lower upper 0 driven)
+    (u : UpstreamTo net lower upper (places net) upstream) (n : UpsTo net lower upper (places net) ups)
+    (y : List ℕ) (held : (q : ℕ) → q < places net → free lower upper q ≡ false → at y q ≡ at lower q) where
+  loaded : (q : ℕ) → q < places net → free lower upper q ≡ false → placeLoad net y q ≡ loadAt net q (at lower q) (sinkAt net q + behind net (placeLoad net y) q)
+  loaded q h t = cc (held q h t, driven-behind net (o .parents) y q h)
+
+  lessLoaded : (q : ℕ) → q < places net → free lower upper q ≡ false
+      → heldLoad net lower upper driven q ≡ loadAt net q (at lower q) (sinkAt net q + behind net (heldLoad net lower upper driven) q)
+  lessLoaded q h t = rw t (ap (loadAt net q (at lower q)) (d .held q (omega arith) h))
+
+  smaller : (q : ℕ) → q < places net → free lower upper q ≡ true → heldLoad net lower upper driven q ≤ placeLoad net y q
+  smaller q h t = rw t (omega arith)
+
+  abbrev extra : ℕ → ℕ
+  extra = more net (o .parents) (free lower upper) (at lower) (placeLoad net y) (heldLoad net lower upper driven) loaded lessLoaded smaller
+
+  extra-free : (q : ℕ) → free lower upper q ≡ true → extra q ≡ placeLoad net y q
+  extra-free q t = rw t (omega arith)
+
+  extra-held : (q : ℕ) → q < places net → free lower upper q ≡ false → extra q ≡ cond (ltb q (net .stages)) 0 (behind net extra q)
+  extra-held = more-held net (o .parents) (free lower upper) (at lower) (placeLoad net y) (heldLoad net lower upper driven) loaded lessLoaded smaller
+
+  -- the delay, apart
+  pub delay-apart : delay net y ≡ fixedFrom net lower upper driven 0 + pricedFrom net lower upper upstream y 0
+  unfolding sumAfter
+  delay-apart =
+      let a = apart net (o .parents) (free lower upper) (at lower) (placeLoad net y) (heldLoad net lower upper driven) loaded lessLoaded smaller
+      (at upstream) (λ q h. ap (λ (v : ℕ). v * extra q) (u .held q h h)) (at y) held in
+      let b = sum-same (places net) (placeDelay net y) (λ q. placeWeight net q * delayAt net q (at y q) (sinkAt net q + behind net (placeLoad net y) q)) (λ q h. rw (driven-behind net (o .parents) y q h)) in
+      let c = sum-same (places net) (λ q. cond (ltb q 0) 0 (cond (free lower upper q) 0 (placeWeight net q * delayAt net q (at lower q) (at driven q))))
+      (λ q. cond (free lower upper q) 0 (placeWeight net q * delayAt net q (at lower q) (sinkAt net q + behind net (heldLoad net lower upper driven) q)))
+      (λ q h. let z : 0 ≤ q = omega arith in rw (le-ltb q 0 z, d .held q (omega arith) h)) in
+      let e = sum-same (places net) (λ q. cond (ltb q 0) 0 (cond (free lower upper q) (placeDelay net y q + at upstream q * placeLoad net y q) 0))
+      (λ q. cond (free lower upper q) (placeWeight net q * delayAt net q (at y q) (sinkAt net q + behind net (placeLoad net y) q) + at upstream q * extra q) 0)
+      (λ q h. let z : 0 ≤ q = omega arith in rw (le-ltb q 0 z) (priced q h (free lower upper q) refl)) in
+      let f = places-delay net y (o .parents) in
+      omega arith
+    where
+      priced : (q : ℕ) → q < places net → (t : Bool) → free lower upper q ≡ t
+          → cond t (placeDelay net y q + at upstream q * placeLoad net y q) 0
+          ≡ cond t (placeWeight net q * delayAt net q (at y q) (sinkAt net q + behind net (placeLoad net y) q) + at upstream q * extra q) 0
+      priced q h true t = rw (extra-free q t, ← (driven-behind net (o .parents) y q h))
+      priced q h false t = refl
+
+  -- what arrives behind a free place p
+  module _ (p : ℕ) (few : p < places net) (frees : free lower upper p ≡ true) where
+    abbrev arrived : ℕ → ℕ
+    arrived q = cond (eqb (at ups q) (suc p)) 1 0
+
+    abbrev pass : ℕ → Bool
+    pass q = cond (free lower upper q) false (not (ltb q (net .stages)))
+
+    arrives-by : (q : ℕ) → q < places net → arrived q ≡ before (λ a. cond (eqb p a) 1 0 + cond (pass a) (arrived a) 0) (hangsAt net q)
+    unfolding before
+    arrives-by q h = rw (n .held q h h) (go (hangsAt net q))
+      where
+        through : (a : ℕ) (b : Bool) → free lower upper a ≡ b → (t : Bool) → ltb a (net .stages) ≡ t
+            → cond (eqb (cond b (suc a) (cond t (suc a) (at ups a))) (suc p)) 1 0 ≡ cond (eqb p a) 1 0 + cond (cond b false (not t)) (arrived a) 0
+        through a true e t f = rw (eqb-iff (suc a) (suc p) p a (λ g. omega arith) (λ g. omega arith)) (omega arith)
+        through a false e true f = rw (eqb-iff (suc a) (suc p) p a (λ g. omega arith) (λ g. omega arith)) (omega arith)
+        through a false e false f =
+            rw (ne-eqb p a (λ g. true≢false (sym frees ∙ ap (free lower upper) g ∙ e))) (omega arith)
+
+        go : (r : ℕ) → cond (eqb (before (arrives net lower upper ups) r) (suc p)) 1 0 ≡ before (λ a. cond (eqb p a) 1 0 + cond (pass a) (arrived a) 0) r
+        go zero = rw (ne-eqb 0 (suc p) (λ e. omega arith))
+        go (suc a) = through a (free lower upper a) refl (ltb a (net .stages)) refl
+
+    arrives-all : behind net extra p ≡ sum (places net) (λ q. cond (eqb (at ups q) (suc p)) (freeLoad net lower upper y q) 0)
+    unfolding behind
+    arrives-all =
+        let a = sum-only (places net) p 1 (behind net extra) few in
+        let b = carried (places net) (hangsAt net) (hangs-falls net (o .parents)) pass (λ a. cond (eqb p a) 1 0) arrived extra
+        (λ q h. ap (λ (v : ℕ). v * extra q) (arrives-by q h)) (λ q h t. passes q h (free lower upper q) refl (ltb q (net .stages)) refl t) in
+        let c = sum-same (places net) (λ q. cond (pass q) 0 (arrived q * extra q)) (λ q. cond (eqb (at ups q) (suc p)) (freeLoad net lower upper y q) 0)
+        (λ q h. shown q h (free lower upper q) refl (ltb q (net .stages)) refl (eqb (at ups q) (suc p))) in
+        omega arith
+      where
+        passes : (q : ℕ) → q < places net → (b : Bool) → free lower upper q ≡ b → (t : Bool) → ltb q (net .stages) ≡ t → cond b false (not t) ≡ true
+            → extra q ≡ gather (places net) (hangsAt net) (hangs-falls net (o .parents)) extra q
+        passes q h true f t e g = absurd (false≢true g)
+        passes q h false f true e g = absurd (false≢true g)
+        passes q h false f false e g = extra-held q h f ∙ rw e
+
+        shown : (q : ℕ) → q < places net → (b : Bool) → free lower upper q ≡ b → (t : Bool) → ltb q (net .stages) ≡ t → (w : Bool)
+            → cond (cond b false (not t)) 0 (cond w 1 0 * extra q) ≡ cond w (cond b (placeLoad net y q) 0) 0
+        shown q h true f t e true = rw (extra-free q f) (omega arith)
+        shown q h true f t e false = omega arith
+        shown q h false f false e true = refl
+        shown q h false f false e false = refl
+        shown q h false f true e true = let z : extra q ≡ 0 = extra-held q h f ∙ rw e in rw z (omega arith)
+        shown q h false f true e false = omega arith
+
+    pub driven-apart : drivenLoad net y p ≡ at driven p + sum (places net) (λ q. cond (eqb (at ups q) (suc p)) (freeLoad net lower upper y q) 0)
+    driven-apart =
+        let a = driven-behind net (o .parents) y p few in
+        let b = behind-more net (o .parents) (free lower upper) (at lower) (placeLoad net y) (heldLoad net lower upper driven) loaded lessLoaded smaller p in
+        let c = d .held p (omega arith) few in
+        let e = arrives-all in
+        omega arith

@@ -1,0 +1,193 @@
+-- The tables of the search, place after place: where the loads arrive, which places are skipped, and what the held places add.
+use mathlib.Core.Path.{_≡_, refl, sym, ap, _∙_}
+use mathlib.Core.Logic.{_⊎_, inl, inr}
+use mathlib.Core.Bool.{Bool, true, false, cond}
+use mathlib.Core.List.{List, flatMap}
+use Prim.Native.Nat.{ℕ, zero, suc, _+_, _*_, _-_, _≤_, _<_}
+use native.Mathlib.Nat.{eq-or-lt-of-le, le-of-suc-le-suc, mul-le-mul-right}
+use native.Mathlib.Numerals.{add-one}
+use native.Mathlib.Omega.{arith}
+use borrow.Author.Tests.{lt-ltb, le-ltb, ltb-false}
+use lib.Dec.{ltb}
+use lib.ListN.{length, set, length-set}
+use lib.Seq.{getD-set-same, getD-set-other, set-getD}
+use Rattle.lattice.specs.Lists.{at, from, span}
+use Rattle.lattice.specs.Space.{Allowed}
+use Rattle.lattice.specs.Search.{Found, takes, cover}
+use Rattle.lattice.proofs.Searching.{takes-append}
+use Rattle.net.specs.Net.{Net, places}
+use Rattle.net.specs.Places.{placeWeight, delayAt}
+use Rattle.net.specs.Sizings.{allowed}
+use Rattle.net.specs.Checked.{Ordered, Limited}
+use Rattle.net.proofs.Questions.{allowed-iff}
+use Rattle.place.specs.Held.{hangsAt, before, free, DrivenFrom}
+use Rattle.place.proofs.After.{after-none, after-step, after-small}
+use Rattle.place.proofs.Weights.{placeWeight-small}
+use Rattle.place.proofs.Steps.{weighted-small}
+use Rattle.place.proofs.Driving.{delay-most, driven-most}
+use Rattle.place.proofs.Held.{before-same, hangs-falls}
+use Rattle.search.specs.Searching.{arrives, UpsTo, SkipsTo, fixedFrom}
+
+module _ (net : Net) (lower upper : List ℕ) where
+  -- where a load at a node arrives: at the node itself, but through a held segment
+  pub arrives-here : (ups : List ℕ) (r : ℕ) → r ≤ net .stages → r ≡ before (arrives net lower upper ups) r
+  unfolding before
+  arrives-here ups zero h = refl
+  arrives-here ups (suc a) h = rw (lt-ltb a (net .stages) h) (go (free lower upper a))
+    where
+      go : (b : Bool) → suc a ≡ cond b (suc a) (suc a)
+      go true = refl
+      go false = refl
+
+  pub arrives-free : (ups : List ℕ) (r : ℕ) → (r ≤ net .stages → ⊥) → at lower (r - 1) < at upper (r - 1) → r ≡ before (arrives net lower upper ups) r
+  unfolding before
+  arrives-free ups zero n h = absurd (n (omega arith))
+  arrives-free ups (suc a) n h = let e : suc a - 1 ≡ a = omega arith in rw (lt-ltb (at lower a) (at upper a) (rw e at h))
+
+  pub arrives-through : (ups : List ℕ) (r : ℕ) → (r ≤ net .stages → ⊥) → at upper (r - 1) ≤ at lower (r - 1) → at ups (r - 1) ≡ before (arrives net lower upper ups) r
+  unfolding before
+  arrives-through ups zero n h = absurd (n (omega arith))
+  arrives-through ups (suc a) n h =
+      let e : suc a - 1 ≡ a = omega arith in
+      let l : net .stages ≤ a = omega (arith, n) in
+      rw (e, le-ltb (at lower a) (at upper a) (rw e at h), le-ltb a (net .stages) l)
+
+  pub ups-start : (ups : List ℕ) → places net ≤ length ups → UpsTo net lower upper 0 ups
+  ups-start ups h = record { long = h; held = λ q l m. absurd (omega arith) }
+
+  -- one place more
+  pub ups-step : Ordered net → (ups : List ℕ) (p v : ℕ) → p < places net → UpsTo net lower upper p ups → v ≡ before (arrives net lower upper ups) (hangsAt net p)
+      → UpsTo net lower upper (p + 1) (set ups p v)
+  ups-step o ups p v h u e =
+      record {
+        long = rw (length-set ups p v) (u .long);
+        held = λ q l m. here q m (eq-or-lt-of-le (le-of-suc-le-suc (omega arith)));
+      }
+    where
+      same : (q : ℕ) → q < places net → q ≤ p → before (arrives net lower upper ups) (hangsAt net q) ≡ before (arrives net lower upper (set ups p v)) (hangsAt net q)
+      same q m n =
+          before-same _ _ (hangsAt net q)
+          (λ a f. let g = hangs-falls net (o .parents) q m in
+          ap (λ (w : ℕ). cond (free lower upper a) (suc a) (cond (ltb a (net .stages)) (suc a) w)) (sym (getD-set-other ups p a v 0 (λ k. omega arith))))
+
+      here : (q : ℕ) → q < places net → (q ≡ p) ⊎ (q < p) → at (set ups p v) q ≡ before (arrives net lower upper (set ups p v)) (hangsAt net q)
+      here q m (inl f) = rw f (getD-set-same ups p v 0 (omega (arith, u .long)) ∙ e ∙ same p h (omega arith))
+      here q m (inr f) = getD-set-other ups p q v 0 (λ k. omega arith) ∙ u .held q f m ∙ same q m (omega arith)
+
+module _ (lower upper : List ℕ) where
+  -- how many places there are up to the last free one
+  pub skips-start : (skips : List ℕ) → 0 < length skips → SkipsTo lower upper 0 (set skips 0 0)
+  skips-start skips h = record { none = getD-set-same skips 0 0 0 h; held = λ q l. absurd (omega arith) }
+
+  pub skips-step : (skips : List ℕ) (p v : ℕ) → p + 1 < length skips → SkipsTo lower upper p skips → v ≡ cond (free lower upper p) (p + 1) (at skips p)
+      → SkipsTo lower upper (p + 1) (set skips (p + 1) v)
+  skips-step skips p v h s e =
+      record {
+        none = getD-set-other skips (p + 1) 0 v 0 (λ k. omega arith) ∙ s .none;
+        held = λ q l. here q (eq-or-lt-of-le (le-of-suc-le-suc (omega arith)));
+      }
+    where
+      here : (q : ℕ) → (q ≡ p) ⊎ (q < p) → at (set skips (p + 1) v) (suc q) ≡ cond (free lower upper q) (suc q) (at (set skips (p + 1) v) q)
+      here q (inl f) =
+          let g : suc q ≡ p + 1 = omega arith in
+          rw (g, f, getD-set-same skips (p + 1) v 0 h, getD-set-other skips (p + 1) p v 0 (λ k. omega arith)) e
+      here q (inr f) =
+          getD-set-other skips (p + 1) (suc q) v 0 (λ k. omega arith)
+          ∙ s .held q f
+          ∙ ap (λ (w : ℕ). cond (free lower upper q) (suc q) w) (sym (getD-set-other skips (p + 1) q v 0 (λ k. omega arith)))
+
+  module _ (n : ℕ) (skips : List ℕ) (s : SkipsTo lower upper n skips) where
+    pub skip-le : (l : ℕ) → l ≤ n → at skips l ≤ l
+    skip-le zero h = omega (arith, s .none)
+    skip-le (suc l) h = let r = skip-le l (omega arith) in rw (s .held l h) (go (free lower upper l) (skip-le l (omega arith)))
+      where
+        go : (b : Bool) → at skips l ≤ l → cond b (suc l) (at skips l) ≤ suc l
+        go true m = omega arith
+        go false m = omega arith
+
+    -- what is skipped is held
+    pub skip-held : (l : ℕ) → l ≤ n → (q : ℕ) → at skips l ≤ q → q < l → free lower upper q ≡ false
+    skip-held zero h q a b = absurd (omega arith)
+    skip-held (suc l) h q a b = go (free lower upper l) refl (rw (s .held l h) at a) (λ c d. skip-held l (omega arith) q c d)
+      where
+        go : (t : Bool) → free lower upper l ≡ t → cond t (suc l) (at skips l) ≤ q → (at skips l ≤ q → q < l → free lower upper q ≡ false) → free lower upper q ≡ false
+        go true e c rest = absurd (omega arith)
+        go false e c rest = here (eq-or-lt-of-le (le-of-suc-le-suc b))
+          where
+            here : (q ≡ l) ⊎ (q < l) → free lower upper q ≡ false
+            here (inl f) = rw f e
+            here (inr f) = rest c f
+
+    -- what is not skipped is free
+    pub skip-free : (l : ℕ) → l ≤ n → (at skips l ≡ 0 → ⊥) → free lower upper (at skips l - 1) ≡ true
+    skip-free zero h m = absurd (m (s .none))
+    skip-free (suc l) h m = go (free lower upper l) refl (λ k. skip-free l (omega arith) k)
+      where
+        go : (t : Bool) → free lower upper l ≡ t → ((at skips l ≡ 0 → ⊥) → free lower upper (at skips l - 1) ≡ true) → free lower upper (at skips (suc l) - 1) ≡ true
+        go true e rest = let f : at skips (suc l) ≡ suc l = s .held l h ∙ rw e in let g : suc l - 1 ≡ l = omega arith in rw (f, g) e
+        go false e rest = let f : at skips (suc l) ≡ at skips l = s .held l h ∙ rw e in rw f (rest (λ k. m (f ∙ k)))
+
+-- one index fewer is left
+pub next-index : (D : List ℕ → ℕ) (g : ℕ → List (List ℕ)) (top k : ℕ) (f : Found) → k ≤ top
+    → takes D (flatMap g (from k (suc top - k))) f ≡ takes D (flatMap g (from (k + 1) (suc top - (k + 1)))) (takes D (g k) f)
+unfolding from flatMap
+next-index D g top k f h =
+    let e : suc top - k ≡ suc (suc top - (k + 1)) = omega arith in
+    rw (e, add-one k) (takes-append D 0 (g k) _ f)
+
+pub no-index : (D : List ℕ → ℕ) (g : ℕ → List (List ℕ)) (top k : ℕ) (f : Found) → top < k → takes D (flatMap g (from k (suc top - k))) f ≡ f
+unfolding from flatMap takes
+no-index D g top k f h = let e : suc top - k ≡ 0 = omega arith in rw e
+
+-- places with one index, which x has, need not be gone through
+pub cover-skip : (D : List ℕ → ℕ) (lower upper : List ℕ) (l p : ℕ) → l ≤ p → (x : List ℕ) (f : Found)
+    → ((q : ℕ) → l ≤ q → q < p → (at lower q ≡ at upper q) × (at x q ≡ at lower q)) → takes D (cover lower upper p x) f ≡ takes D (cover lower upper l x) f
+unfolding cover span
+cover-skip D lower upper l zero h x f held = let e : l ≡ 0 = omega arith in rw e
+cover-skip D lower upper l (suc p) h x f held = go (eq-or-lt-of-le h) (λ m. cover-skip D lower upper l p m x f (λ q a b. held q a (omega arith)))
+  where
+    go : (l ≡ suc p) ⊎ (l < suc p) → (l ≤ p → takes D (cover lower upper p x) f ≡ takes D (cover lower upper l x) f)
+        → takes D (flatMap (λ k. cover lower upper p (set x p k)) (from (at lower p) (suc (at upper p) - at lower p))) f ≡ takes D (cover lower upper l x) f
+    go (inl e) rest = rw e
+    go (inr m) rest =
+        let g : ℕ → List (List ℕ) = λ k. cover lower upper p (set x p k) in
+        let a = held p (le-of-suc-le-suc m) (omega arith) in
+        next-index D g (at upper p) (at lower p) f (omega (arith, a .0))
+        ∙ no-index D g (at upper p) (at lower p + 1) _ (omega (arith, a .0))
+        ∙ ap (λ (y : List ℕ). takes D (cover lower upper p y) f) (ap (λ (k : ℕ). set x p k) (sym (a .1)) ∙ set-getD x p 0)
+        ∙ rest (le-of-suc-le-suc m)
+
+-- a held place has one index
+pub one-index : (lower upper : List ℕ) (q : ℕ) → at lower q ≤ at upper q → free lower upper q ≡ false → at lower q ≡ at upper q
+one-index lower upper q h t = omega (arith, ltb-false (at lower q) (at upper q) t)
+
+-- What the held places add, from the last place to the first.
+module _ (net : Net) (o : Ordered net) (l : Limited net) (lower upper driven : List ℕ) (low : Allowed (allowed net) lower) (i : DrivenFrom net lower upper 0 driven) where
+  abbrev term : ℕ → ℕ
+  term a = cond (free lower upper a) 0 (placeWeight net a * delayAt net a (at lower a) (at driven a))
+
+  pub fixed-fits : (p : ℕ) → fixedFrom net lower upper driven p ≤ 5770752000000000000
+  fixed-fits p =
+      omega (
+        arith,
+        after-small (places net) term p 84864000000000000 (λ q h m. go (free lower upper q) (weighted-small _ _ (placeWeight-small net o l q m) (delay-most net l q (at lower q) (at driven q) m (allowed-iff net lower .0 low .high q m) (driven-most net o l lower upper low driven i q m)))),
+        mul-le-mul-right 84864000000000000 few,
+      )
+    where
+      few : places net ≤ 68
+      few = omega (arith, l .stages, l .segments)
+
+      go : (b : Bool) {v : ℕ} → v ≤ 84864000000000000 → cond b 0 v ≤ 84864000000000000
+      go true h = omega arith
+      go false h = h
+
+  pub fixed-none : fixedFrom net lower upper driven (places net) ≡ 0
+  fixed-none = after-none (places net) term
+
+  -- a held place adds its delay, a free one nothing
+  pub fixed-step : (p : ℕ) → p < places net → at upper p ≤ at lower p
+      → fixedFrom net lower upper driven p ≡ fixedFrom net lower upper driven (suc p) + placeWeight net p * delayAt net p (at lower p) (at driven p)
+  fixed-step p h m = after-step (places net) term p h ∙ ap (λ (v : ℕ). fixedFrom net lower upper driven (suc p) + v) (rw (le-ltb (at lower p) (at upper p) m))
+
+  pub fixed-skip : (p : ℕ) → p < places net → at lower p < at upper p → fixedFrom net lower upper driven p ≡ fixedFrom net lower upper driven (suc p)
+  fixed-skip p h m = after-step (places net) term p h ∙ (rw (lt-ltb (at lower p) (at upper p) m) (omega arith))
