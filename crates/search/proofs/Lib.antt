@@ -2,3 +2,4 @@ pub mod Apart
 pub mod Tables
 pub mod Turns
 pub mod Calls
+pub mod Starting

@@ -8,7 +8,7 @@ use native.Mathlib.Nat.{eq-or-lt-of-le, le-of-suc-le-suc, mul-le-mul-right}
 use native.Mathlib.Numerals.{add-one}
 use native.Mathlib.Omega.{arith}
 use borrow.Author.Tests.{lt-ltb, le-ltb, ltb-false}
-use lib.Dec.{ltb}
+use lib.Dec.{eqb, ltb}
 use lib.ListN.{length, set, length-set}
 use lib.Seq.{getD-set-same, getD-set-other, set-getD}
 use Rattle.lattice.specs.Lists.{at, from, span}
@@ -16,17 +16,18 @@ use Rattle.lattice.specs.Space.{Allowed}
 use Rattle.lattice.specs.Search.{Found, takes, cover}
 use Rattle.lattice.proofs.Searching.{takes-append}
 use Rattle.net.specs.Net.{Net, places}
-use Rattle.net.specs.Places.{placeWeight, delayAt}
+use Rattle.net.specs.Delay.{delay}
+use Rattle.net.specs.Places.{placeWeight, delayAt, placeDelay, placeLoad}
 use Rattle.net.specs.Sizings.{allowed}
 use Rattle.net.specs.Checked.{Ordered, Limited}
 use Rattle.net.proofs.Questions.{allowed-iff}
-use Rattle.place.specs.Held.{hangsAt, before, free, DrivenFrom}
-use Rattle.place.proofs.After.{after-none, after-step, after-small}
+use Rattle.place.specs.Held.{hangsAt, before, free, GatheredFrom, DrivenFrom}
+use Rattle.place.proofs.After.{after-none, after-step, after-skip, after-small}
 use Rattle.place.proofs.Weights.{placeWeight-small}
 use Rattle.place.proofs.Steps.{weighted-small}
 use Rattle.place.proofs.Driving.{delay-most, driven-most}
 use Rattle.place.proofs.Held.{before-same, hangs-falls}
-use Rattle.search.specs.Searching.{arrives, UpsTo, SkipsTo, fixedFrom}
+use Rattle.search.specs.Searching.{arrives, UpsTo, SkipsTo, fixedFrom, freeLoad, pricedFrom}
 
 module _ (net : Net) (lower upper : List ℕ) where
   -- where a load at a node arrives: at the node itself, but through a held segment
@@ -160,6 +161,33 @@ cover-skip D lower upper l (suc p) h x f held = go (eq-or-lt-of-le h) (λ m. cov
 -- a held place has one index
 pub one-index : (lower upper : List ℕ) (q : ℕ) → at lower q ≤ at upper q → free lower upper q ≡ false → at lower q ≡ at upper q
 one-index lower upper q h t = omega (arith, ltb-false (at lower q) (at upper q) t)
+
+-- The places that are skipped before p: they add nothing, show nothing, and leave one sizing.
+module _ (net : Net) (lower upper skips : List ℕ) (s : SkipsTo lower upper (places net) skips) (p : ℕ) (h : p ≤ places net) (y : List ℕ) where
+  pub priced-skip : (upstream : List ℕ) → pricedFrom net lower upper upstream y (at skips p) ≡ pricedFrom net lower upper upstream y p
+  priced-skip upstream =
+      after-skip (places net) (λ q. cond (free lower upper q) (placeDelay net y q + at upstream q * placeLoad net y q) 0) (at skips p) p
+      (skip-le lower upper (places net) skips s p h) (λ q a b m. rw (skip-held lower upper (places net) skips s p h q a b))
+
+  pub gathers-skip : (ups gathered : List ℕ) → GatheredFrom (places net) (at ups) (freeLoad net lower upper y) p gathered
+      → GatheredFrom (places net) (at ups) (freeLoad net lower upper y) (at skips p) gathered
+  gathers-skip ups gathered g =
+      record {
+        long = g .long;
+        held = λ r m. g .held r m
+            ∙ sym (after-skip (places net) (λ q. cond (eqb (at ups q) r) (freeLoad net lower upper y q) 0) (at skips p) p (skip-le lower upper (places net) skips s p h)
+            (λ q a b n. rw (skip-held lower upper (places net) skips s p h q a b) (none (eqb (at ups q) r))));
+      }
+    where
+      none : (b : Bool) → _≡_ {A = ℕ} (cond b 0 0) 0
+      none true = refl
+      none false = refl
+
+  pub takes-skip : ((q : ℕ) → q < places net → at lower q ≤ at upper q) → ((q : ℕ) → q < places net → free lower upper q ≡ false → at y q ≡ at lower q) → (f : Found)
+      → takes (delay net) (cover lower upper p y) f ≡ takes (delay net) (cover lower upper (at skips p) y) f
+  takes-skip order held f =
+      cover-skip (delay net) lower upper (at skips p) p (skip-le lower upper (places net) skips s p h) y f
+      (λ q a b. let t = skip-held lower upper (places net) skips s p h q a b in (one-index lower upper q (order q (omega arith)) t, held q (omega arith) t))
 
 -- What the held places add, from the last place to the first.
 module _ (net : Net) (o : Ordered net) (l : Limited net) (lower upper driven : List ℕ) (low : Allowed (allowed net) lower) (i : DrivenFrom net lower upper 0 driven) where

@@ -25,11 +25,11 @@ use Rattle.net.proofs.Places.{driven-reads, placeLoad-reads, placeDelay-reads}
 use Rattle.net.proofs.Bound.{delay-fits}
 use Rattle.net.proofs.Questions.{ordered, limited, allowed-iff, allowed-ranges}
 use Rattle.place.specs.Held.{free, sumAfter, GatheredFrom}
-use Rattle.place.proofs.After.{after-step, after-same, after-skip, after-le}
+use Rattle.place.proofs.After.{after-step, after-same, after-le}
 use Rattle.place.proofs.Gathering.{gathered-all, gathering-step}
 use Rattle.search.specs.Searching.{fixedFrom, freeLoad, pricedFrom, Prepared, Sized, Searched}
 use Rattle.search.proofs.Apart.{ups-fall, delay-apart, driven-apart}
-use Rattle.search.proofs.Tables.{skip-le, skip-held, next-index, no-index, cover-skip, one-index}
+use Rattle.search.proofs.Tables.{skip-le, next-index, no-index, priced-skip, gathers-skip, takes-skip}
 
 -- a larger delay than the least changes nothing
 take-none : (x : List ℕ) (d : ℕ) (f : Found) → f .least < d → f ≡ take x d f
@@ -128,8 +128,7 @@ module _ {c : Counts} {job weights upstream driven ups skips lower upper : List 
       reached =
           let a = start .adds in
           let b = priced in
-          let s = after-skip (places net) (λ q. cond (free lower upper q) (placeDelay net y q + at upstream q * placeLoad net y q) 0) (at skips p) p
-          (skip-le lower upper (places net) skips (r .skipped) p (omega arith)) (λ q h m n. rw (skip-held lower upper (places net) skips (r .skipped) p (omega arith) q h m)) in
+          let s = priced-skip net lower upper skips (r .skipped) p (omega arith) y upstream in
           omega arith
 
       whole : fixedFrom net lower upper driven 0 + pricedFrom net lower upper upstream y 0 ≡ delay net y
@@ -157,7 +156,7 @@ module _ {c : Counts} {job weights upstream driven ups skips lower upper : List 
             few = omega (arith, skip-le lower upper (places net) skips (r .skipped) p (omega arith));
             allowed = y-allowed;
             held = y-held;
-            gathers = rw (same v) skipped;
+            gathers = rw (same v) (gathers-skip net lower upper skips (r .skipped) p (omega arith) y ups _ here);
             adds = reached;
             leanLong = t .leanLong;
             wideLong = t .wideLong;
@@ -169,19 +168,6 @@ module _ {c : Counts} {job weights upstream driven ups skips lower upper : List 
               (λ q h m. rw (placeLoad-reads net falls y x₀ q m (λ s a b. y-after s (omega arith) b))) (start .gathers) v
               (omega (arith, ups-fall net (ordered (r .checked)) lower upper ups (places net) (r .lifted) (suc p) p (omega arith) few few))
               (g ∙ rw frees (cc (y-here, y-driven)))
-
-          skipped : GatheredFrom (places net) (at ups) (freeLoad net lower upper y) (at skips p) (set gathered₀ (at ups p) v)
-          skipped =
-              record {
-                long = here .long;
-                held = λ s h. here .held s h
-                    ∙ sym (after-skip (places net) (λ q. cond (eqb (at ups q) s) (freeLoad net lower upper y q) 0) (at skips p) p (skip-le lower upper (places net) skips (r .skipped) p (omega arith))
-                    (λ q a b m. rw (skip-held lower upper (places net) skips (r .skipped) p (omega arith) q a b) (none (eqb (at ups q) s))));
-              }
-            where
-              none : (b : Bool) → _≡_ {A = ℕ} (cond b 0 0) 0
-              none true = refl
-              none false = refl
 
     -- with the sizings of the index k taken
     next : (x′ : List ℕ) (f′ : Found) → f′ ≡ takes (delay net) (cover lower upper p (set x₀ p k)) f → Allowed (allowed net) x′
@@ -209,9 +195,7 @@ module _ {c : Counts} {job weights upstream driven ups skips lower upper : List 
     -- the sizings of the index k, by those with the skipped places as they are
     from-rest : takes (delay net) (cover lower upper (at skips p) y) f ≡ takes (delay net) (cover lower upper p (set x₀ p k)) f
     from-rest =
-        sym (cover-skip (delay net) lower upper (at skips p) p (skip-le lower upper (places net) skips (r .skipped) p (omega arith)) y f
-        (λ q a b. let h = skip-held lower upper (places net) skips (r .skipped) p (omega arith) q a b in
-        (one-index lower upper q (r .inOrder q (omega arith)) h, y-held q (omega arith) h)))
+        sym (takes-skip net lower upper skips (r .skipped) p (omega arith) y (r .inOrder) y-held f)
         ∙ ap (λ l. takes (delay net) l f) (cover-same lower upper (places net) p y (set x₀ p k) y-long (length-set x₀ p k ∙ x₀-long) agree)
 
     -- what the recursive call leaves is the loop's state at the next index

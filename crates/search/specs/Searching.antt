@@ -44,6 +44,14 @@ module _ (net : Net) (lower upper : List ℕ) where
   abbrev pub pricedFrom : List ℕ → List ℕ → ℕ → ℕ
   pricedFrom upstream x p = sumAfter (places net) (λ q. cond (free lower upper q) (placeDelay net x q + at upstream q * placeLoad net x q) 0) p
 
+-- Two allowed sizings in order, and the weights of the places: what a search goes between.
+pub record Bounds (c : Counts) (job weights lower upper : List ℕ) : Type 0 where
+  pub checked : Checked c job
+  pub weighed : WeightsFrom (netBy c job) 0 weights
+  pub lowerAllowed : Allowed (allowed (netBy c job)) lower
+  pub upperAllowed : Allowed (allowed (netBy c job)) upper
+  pub inOrder : (q : ℕ) → q < places (netBy c job) → at lower q ≤ at upper q
+
 -- What stays the same throughout a search.
 pub record Prepared (c : Counts) (job weights upstream driven ups skips lower upper : List ℕ) : Type 0 where
   pub checked : Checked c job

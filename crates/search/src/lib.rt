@@ -10,13 +10,15 @@ ghost use mathlib.Core.Bool.{true};
 ghost use lib.ListN.{length};
 ghost use Rattle.lattice.specs.Lists.{at};
 ghost use Rattle.lattice.specs.Space.{Allowed};
+ghost use Rattle.lattice.specs.Search.{takes, cover};
 ghost use Rattle.envelope.specs.Kept.{found};
 ghost use Rattle.net.specs.Net.{netBy};
+ghost use Rattle.net.specs.Delay.{delay};
 ghost use Rattle.net.specs.Sizings.{allowed};
 ghost use Rattle.net.specs.Checked.{Checked};
 ghost use Rattle.place.specs.Partial.{WeightsFrom};
 ghost use Rattle.place.specs.Held.{hangsAt, before, free, DrivenFrom};
-ghost use Rattle.search.specs.Searching.{arrives, UpsTo, SkipsTo, fixedFrom, Prepared, Sized, Searched};
+ghost use Rattle.search.specs.Searching.{arrives, UpsTo, SkipsTo, fixedFrom, Bounds, Prepared, Sized, Searched};
 
 // The node at which a load at `node` arrives, through the held segments above it.
 fn arrival(counts: Counts, lower: &[u8], upper: &[u8], ups: &[usize; 68], job: &[u8], node: usize) -> usize
@@ -36,7 +38,7 @@ fn arrival(counts: Counts, lower: &[u8], upper: &[u8], ups: &[usize; 68], job: &
 }
 
 // The nodes at which the loads of the places arrive.
-pub fn lift(job: &[u8], counts: Counts, lower: &[u8], upper: &[u8], ups: &mut [usize; 68])
+fn lift(job: &[u8], counts: Counts, lower: &[u8], upper: &[u8], ups: &mut [usize; 68])
     requires { ⌜ Checked counts (now job) ⌝ }
     requires { ⌜ (counts .stages + counts .segments ≤ length (now lower)) × (counts .stages + counts .segments ≤ length (now upper)) ⌝ }
     requires { ⌜ counts .stages + counts .segments ≤ length (now ups) ⌝ }
@@ -52,7 +54,7 @@ pub fn lift(job: &[u8], counts: Counts, lower: &[u8], upper: &[u8], ups: &mut [u
 }
 
 // Of how many places the last one is free, up to each place.
-pub fn skip(job: &[u8], counts: Counts, lower: &[u8], upper: &[u8], skips: &mut [usize; 69])
+fn skip(job: &[u8], counts: Counts, lower: &[u8], upper: &[u8], skips: &mut [usize; 69])
     requires { ⌜ Checked counts (now job) ⌝ }
     requires { ⌜ (counts .stages + counts .segments ≤ length (now lower)) × (counts .stages + counts .segments ≤ length (now upper)) ⌝ }
     requires { ⌜ counts .stages + counts .segments < length (now skips) ⌝ }
@@ -73,7 +75,7 @@ pub fn skip(job: &[u8], counts: Counts, lower: &[u8], upper: &[u8], skips: &mut 
 }
 
 // What the held places add to the delay.
-pub fn fixed_delay(
+fn fixed_delay(
     job: &[u8],
     counts: Counts,
     weights: &[u64; 68],
@@ -147,7 +149,7 @@ fn last(
 
 // Takes every sizing that has the indices of x from `left` on and lies between the bounds before it, where the place before `left` is free. The
 // loads of the free places from `left` on, each at the node where it arrives, and the delay so far are carried along.
-pub fn search(
+fn search(
     job: &[u8],
     counts: Counts,
     weights: &[u64; 68],
@@ -228,4 +230,102 @@ pub fn search(
     }
     gathered[node] = others;
     best
+}
+
+// Takes every sizing between the bounds, where x is the lower bound and the tables are filled.
+fn start(
+    job: &[u8],
+    counts: Counts,
+    weights: &[u64; 68],
+    upstream: &[u64; 68],
+    driven: &[u64; 68],
+    ups: &[usize; 68],
+    skips: &[usize; 69],
+    lower: &[u8],
+    upper: &[u8],
+    x: &mut [u8],
+    least: Delay,
+    lean: &mut [u8],
+    wide: &mut [u8],
+) -> Delay
+    requires { ⌜ Prepared counts (now job) (now weights) (now upstream) (now driven) (now ups) (now skips) (now lower) (now upper) ⌝ }
+    requires { ⌜ now x ≡ now lower ⌝ }
+    requires { ⌜ (length (now lean) ≡ counts .stages + counts .segments) × (length (now wide) ≡ counts .stages + counts .segments) ⌝ }
+    ensures { λ r. ⌜ found (r .0) (now (lean .exit)) (now (wide .exit)) ≡ takes (delay (netBy counts (now (job .entry)))) (cover (now (lower .entry)) (now (upper .entry)) (counts .stages + counts .segments) (now (lower .entry))) (found (least .0) (now (lean .entry)) (now (wide .entry))) ⌝ }
+{
+    let fixed = fixed_delay(job, counts, weights, driven, lower, upper);
+    let left = skips[counts.stages + counts.segments];
+    if left == 0 {
+        return envelope::keep(x, fixed, least, lean, wide);
+    }
+    let mut gathered = [0u64; 69];
+    search(
+        job,
+        counts,
+        weights,
+        upstream,
+        driven,
+        ups,
+        skips,
+        lower,
+        upper,
+        left,
+        fixed,
+        x,
+        &mut gathered,
+        least,
+        lean,
+        wide,
+    )
+}
+
+// Takes every sizing between the bounds, where x is the lower bound.
+pub fn between(
+    job: &[u8],
+    counts: Counts,
+    weights: &[u64; 68],
+    lower: &[u8],
+    upper: &[u8],
+    x: &mut [u8],
+    least: Delay,
+    lean: &mut [u8],
+    wide: &mut [u8],
+) -> Delay
+    requires { ⌜ Bounds counts (now job) (now weights) (now lower) (now upper) ⌝ }
+    requires { ⌜ now x ≡ now lower ⌝ }
+    requires { ⌜ (length (now lean) ≡ counts .stages + counts .segments) × (length (now wide) ≡ counts .stages + counts .segments) ⌝ }
+    ensures { λ r. ⌜ found (r .0) (now (lean .exit)) (now (wide .exit)) ≡ takes (delay (netBy counts (now (job .entry)))) (cover (now (lower .entry)) (now (upper .entry)) (counts .stages + counts .segments) (now (lower .entry))) (found (least .0) (now (lean .entry)) (now (wide .entry))) ⌝ }
+{
+    let mut driven = [0u64; 68];
+    place::drive(job, counts, lower, upper, &mut driven);
+    let mut upstream = [0u64; 68];
+    let places = counts.stages + counts.segments;
+    place::go_upstream(
+        job,
+        counts,
+        weights,
+        lower,
+        upper,
+        &mut upstream,
+        places,
+    );
+    let mut ups = [0usize; 68];
+    lift(job, counts, lower, upper, &mut ups);
+    let mut skips = [0usize; 69];
+    skip(job, counts, lower, upper, &mut skips);
+    start(
+        job,
+        counts,
+        weights,
+        &upstream,
+        &driven,
+        &ups,
+        &skips,
+        lower,
+        upper,
+        x,
+        least,
+        lean,
+        wide,
+    )
 }

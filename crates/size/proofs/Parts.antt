@@ -1,5 +1,5 @@
 -- The parts of size: the search between the bounds finds the least delay, lean and wide, and each way through the questions is the definition.
-use mathlib.Core.Path.{_≡_, sym, ap, _∙_}
+use mathlib.Core.Path.{_≡_, ap, _∙_}
 use mathlib.Core.List.{List}
 use Prim.Native.Nat.{ℕ, _≤_, _<_}
 use native.Mathlib.Omega.{arith}
@@ -8,20 +8,19 @@ use Rattle.lattice.specs.Lists.{at}
 use Rattle.lattice.specs.Space.{Allowed, within}
 use Rattle.lattice.specs.Least as least
 use Rattle.lattice.specs.Refine as refining
-use Rattle.lattice.specs.Search.{Found}
-use Rattle.lattice.proofs.Theorems.{lower-fixed, upper-fixed, enclosed}
+use Rattle.lattice.specs.Search.{Found, takes, cover}
+use Rattle.lattice.proofs.Theorems.{lower-fixed, upper-fixed, in-order, enclosed}
 use Rattle.lattice.proofs.Searching.{Finds, cover-finds}
 use Rattle.net.specs.declared.Counts.{Counts}
 use Rattle.net.specs.Net.{places, netBy}
+use Rattle.net.specs.Delay.{delay}
 use Rattle.net.specs.Sizings.{allowed, lean, wide, lowerBound, upperBound, room}
 use Rattle.net.specs.Checked.{Checked}
 use Rattle.net.proofs.Dominance.{allowed-lattice}
-use Rattle.net.proofs.Places.{delayFrom-none}
 use Rattle.net.proofs.Questions.{lowestSizing, allowed-iff, checked-allowed, checked-submodular, checked-fits}
-use Rattle.links.specs.Links.{Linked}
 use Rattle.place.specs.Partial.{WeightsFrom}
 use Rattle.envelope.specs.Kept.{found}
-use Rattle.search.specs.Searching.{Prepared, Sized, Searched}
+use Rattle.search.specs.Searching.{Bounds}
 use Rattle.size.specs.Parts.{Bounded, LeastOf}
 
 module _ {c : Counts} {job : List ℕ} (k : Checked c job) where
@@ -39,41 +38,28 @@ module _ {c : Counts} {job : List ℕ} (k : Checked c job) where
   upper-long b = ap length (b .isUpper) ∙ allowed-iff (netBy c job) (upperBound (netBy c job)) .0 upper-allowed .long
 
   -- the search may start
-  pub prepared : {first next weights lower upper : List ℕ} → Linked (netBy c job) first next → WeightsFrom (netBy c job) 0 weights
-      → Bounded (netBy c job) lower upper → Prepared c job first next weights lower upper
-  prepared l w b =
+  pub bounds : {weights lower upper : List ℕ} → WeightsFrom (netBy c job) 0 weights → Bounded (netBy c job) lower upper → Bounds c job weights lower upper
+  unfolding within
+  bounds w b =
       record {
         checked = k;
-        linked = l;
         weighed = w;
         lowerAllowed = rw (b .isLower) lower-allowed;
         upperAllowed = rw (b .isUpper) upper-allowed;
-      }
-
-  pub sized : {lower upper x loads lean wide : List ℕ} → Bounded (netBy c job) lower upper → x ≡ lower → places (netBy c job) ≤ length loads
-      → length lean ≡ places (netBy c job) → length wide ≡ places (netBy c job) → Sized (netBy c job) (places (netBy c job)) 0 x loads lean wide
-  sized {x = x} b e r m n =
-      record {
-        few = omega arith;
-        allowed = rw (e ∙ b .isLower) lower-allowed;
-        room = r;
-        loaded = record { held = λ q h i. absurd (omega arith) };
-        adds = sym (delayFrom-none (netBy c job) x (places (netBy c job)) (omega arith));
-        leanLong = m;
-        wideLong = n;
+        inOrder = λ q h. rw (b .isLower, b .isUpper) (omega (arith, in-order (allowed-lattice (netBy c job)) (checked-submodular k) (lowestSizing (netBy c job)) (checked-allowed k) q h));
       }
 
   -- and finds what it is for
-  pub searched : {lower upper x loads lean′ wide′ x′ loads′ : List ℕ} {f : Found} → Bounded (netBy c job) lower upper → length x ≡ places (netBy c job)
-      → Searched (netBy c job) lower upper (places (netBy c job)) x loads (found 9223372036854775808 lean′ wide′) x′ loads′ f
+  pub searched : (lower upper x lean′ wide′ : List ℕ) {f : Found} → Bounded (netBy c job) lower upper → length x ≡ places (netBy c job)
+      → f ≡ takes (delay (netBy c job)) (cover lower upper (places (netBy c job)) x) (found 9223372036854775808 lean′ wide′)
       → LeastOf (netBy c job) (f .least) (f .lean) (f .wide)
   unfolding within
-  searched {lower} {upper} {x} {lean′ = lean′} {wide′ = wide′} {f = f} b e s =
+  searched lower upper x lean′ wide′ {f} b e s =
       let la = allowed-lattice (netBy c job) in
       let sub = checked-submodular k in
       let x₀ = lowestSizing (netBy c job) in
       let r : Finds la sub x₀ (checked-allowed k) f =
-      rw (s .found) (cover-finds la sub x₀ (checked-allowed k) lower upper (found 9223372036854775808 lean′ wide′) x e
+      rw s (cover-finds la sub x₀ (checked-allowed k) lower upper (found 9223372036854775808 lean′ wide′) x e
       (λ y l m. let a = inside y l m in (a, checked-fits k y a))
       (λ y l q h. rw (b .isLower, b .isUpper) (enclosed la sub x₀ (checked-allowed k) y l q h))) in
       record { isLeast = r .least; isLean = r .lean; isWide = r .wide }

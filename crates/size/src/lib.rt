@@ -13,42 +13,31 @@ ghost use Rattle.links.specs.Links.{Linked};
 ghost use Rattle.place.specs.Partial.{WeightsFrom};
 ghost use Rattle.size.specs.Parts.{Bounded, LeastOf, numberFrom, bufferFrom};
 
-// The least delay, lean and wide, by the search between the bounds; x and loads are its working space.
+// The least delay, lean and wide, by the search between the bounds; x is its working space.
 fn least(
     job: &[u8],
     counts: Counts,
-    first: &[usize],
-    next: &[usize],
-    weights: &[u64],
+    weights: &[u64; 68],
     lower: &[u8],
     upper: &[u8],
     x: &mut [u8],
-    loads: &mut [u64],
     lean: &mut [u8],
     wide: &mut [u8],
 ) -> Delay
     requires { ⌜ Checked counts (now job) ⌝ }
-    requires { ⌜ Linked (netBy counts (now job)) (now first) (now next) ⌝ }
     requires { ⌜ WeightsFrom (netBy counts (now job)) 0 (now weights) ⌝ }
     requires { ⌜ Bounded (netBy counts (now job)) (now lower) (now upper) ⌝ }
-    requires { ⌜ (length (now lower) ≡ length (now x)) × (counts .stages + counts .segments ≤ length (now loads)) ⌝ }
-    requires { ⌜ (length (now lean) ≡ counts .stages + counts .segments) × (length (now wide) ≡ counts .stages + counts .segments) ⌝ }
+    requires { ⌜ (length (now lower) ≡ length (now x)) × (length (now lean) ≡ counts .stages + counts .segments) × (length (now wide) ≡ counts .stages + counts .segments) ⌝ }
     ensures { λ r. ⌜ LeastOf (netBy counts (now (job .entry))) (r .0) (now (lean .exit)) (now (wide .exit)) ⌝ }
 {
     bytes::copy(lower, x);
-    let places = counts.stages + counts.segments;
-    search::search(
+    search::between(
         job,
         counts,
-        first,
-        next,
         weights,
         lower,
         upper,
-        places,
-        Delay(0),
         x,
-        loads,
         Delay(9223372036854775808),
         lean,
         wide,
@@ -59,39 +48,22 @@ fn least(
 fn find_and_write(
     job: &[u8],
     counts: Counts,
-    first: &[usize],
-    next: &[usize],
+    weights: &[u64; 68],
     lower: &[u8],
     upper: &[u8],
-    weights: &mut [u64],
-    loads: &mut [u64],
     x: &mut [u8],
     lean: &mut [u8],
     wide: &mut [u8],
     reply: &mut [u8],
 )
     requires { ⌜ Checked counts (now job) ⌝ }
-    requires { ⌜ Linked (netBy counts (now job)) (now first) (now next) ⌝ }
+    requires { ⌜ WeightsFrom (netBy counts (now job)) 0 (now weights) ⌝ }
     requires { ⌜ Bounded (netBy counts (now job)) (now lower) (now upper) ⌝ }
-    requires { ⌜ (counts .stages + counts .segments ≤ length (now weights)) × (counts .stages + counts .segments ≤ length (now loads)) ⌝ }
     requires { ⌜ (length (now x) ≡ counts .stages + counts .segments) × (length (now lean) ≡ counts .stages + counts .segments) × (length (now wide) ≡ counts .stages + counts .segments) ⌝ }
     requires { ⌜ 8 * suc (counts .stages + counts .segments) ≤ length (now reply) ⌝ }
     ensures { λ r. ⌜ now (reply .exit) ≡ bufferFrom (netBy counts (now (job .entry))) 0 (now (reply .entry)) ⌝ }
 {
-    place::weigh(job, counts, first, next, weights);
-    let delay = least(
-        job,
-        counts,
-        first,
-        next,
-        weights,
-        lower,
-        upper,
-        x,
-        loads,
-        lean,
-        wide,
-    );
+    let delay = least(job, counts, weights, lower, upper, x, lean, wide);
     reply::finished(reply, delay, lower, upper, lean, wide);
 }
 
@@ -99,33 +71,27 @@ fn find_and_write(
 fn finish(
     job: &[u8],
     counts: Counts,
-    first: &[usize],
-    next: &[usize],
+    weights: &[u64; 68],
     lower: &[u8],
     upper: &[u8],
     reply: &mut [u8],
 )
     requires { ⌜ Checked counts (now job) ⌝ }
-    requires { ⌜ Linked (netBy counts (now job)) (now first) (now next) ⌝ }
+    requires { ⌜ WeightsFrom (netBy counts (now job)) 0 (now weights) ⌝ }
     requires { ⌜ Bounded (netBy counts (now job)) (now lower) (now upper) ⌝ }
     requires { ⌜ 8 * suc (counts .stages + counts .segments) ≤ length (now reply) ⌝ }
     ensures { λ r. ⌜ now (reply .exit) ≡ bufferFrom (netBy counts (now (job .entry))) 0 (now (reply .entry)) ⌝ }
 {
     let places = counts.stages + counts.segments;
-    let mut weights = [0u64; 68];
-    let mut loads = [0u64; 68];
     let mut x = [0u8; 68];
     let mut lean = [0u8; 68];
     let mut wide = [0u8; 68];
     find_and_write(
         job,
         counts,
-        first,
-        next,
+        weights,
         lower,
         upper,
-        &mut weights,
-        &mut loads,
         &mut x[..places],
         &mut lean[..places],
         &mut wide[..places],
@@ -137,14 +103,13 @@ fn finish(
 fn answer(
     job: &[u8],
     counts: Counts,
-    first: &[usize],
-    next: &[usize],
+    weights: &[u64; 68],
     lower: &[u8],
     upper: &[u8],
     reply: &mut [u8],
 ) -> usize
     requires { ⌜ Checked counts (now job) ⌝ }
-    requires { ⌜ Linked (netBy counts (now job)) (now first) (now next) ⌝ }
+    requires { ⌜ WeightsFrom (netBy counts (now job)) 0 (now weights) ⌝ }
     requires { ⌜ Bounded (netBy counts (now job)) (now lower) (now upper) ⌝ }
     requires { ⌜ 8 * suc (counts .stages + counts .segments) ≤ length (now reply) ⌝ }
     ensures number { λ r. ⌜ r ≡ numberFrom (netBy counts (now (job .entry))) ⌝ }
@@ -158,7 +123,7 @@ fn answer(
         reply::bounds_only(reply, lower, upper);
         return 14;
     }
-    finish(job, counts, first, next, lower, upper, reply);
+    finish(job, counts, weights, lower, upper, reply);
     0
 }
 
@@ -179,9 +144,11 @@ fn bound_and_answer(
     ensures number { λ r. ⌜ r ≡ numberFrom (netBy counts (now (job .entry))) ⌝ }
     ensures buffer { λ r. ⌜ now (reply .exit) ≡ bufferFrom (netBy counts (now (job .entry))) r (now (reply .entry)) ⌝ }
 {
-    bounds::bound(job, counts, first, next, lower, Side::Below);
-    bounds::bound(job, counts, first, next, upper, Side::Above);
-    answer(job, counts, first, next, lower, upper, reply)
+    let mut weights = [0u64; 68];
+    place::weigh(job, counts, first, next, &mut weights);
+    bounds::bound(job, counts, &weights, lower, Side::Below);
+    bounds::bound(job, counts, &weights, upper, Side::Above);
+    answer(job, counts, &weights, lower, upper, reply)
 }
 
 // Writes the reply of a job into the buffer, for the numbers 0 and 14; every other number leaves the buffer as it was.

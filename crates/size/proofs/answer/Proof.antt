@@ -17,19 +17,19 @@ add-places c = search needs
 
 in-order-requires : tie.Need-in-order-requires
 in-order-requires c κs =
-    let b = c .before .before .before .before .before .before .before in
+    let b = c .before .before .before .before .before in
     (omega (arith, lower-long (b .pre .0) (b .pre .1 .1 .0)), omega (arith, upper-long (b .pre .0) (b .pre .1 .1 .0)))
 
 returns : tie.Need-returns
 returns c =
-    let b = c .before .before .before .before .before .before .before .before .before in (
+    let b = c .before .before .before .before .before .before .before in (
       number-13 (netBy (b .args .counts) (b .args .job .now)) (b .args .lower .now) (b .args .upper .now) (b .pre .1 .1 .0) (c .before .in-order .result) (c .before .in-order .ensures) (not-true _ (c .if1 .taken)),
       buffer-13 (netBy (b .args .counts) (b .args .job .now)) (b .args .reply .now),
     )
 
 room-fits-requires : tie.Need-room-fits-requires
 room-fits-requires c κs =
-    let b = c .before .before .before .before .before .before .before .before .before in
+    let b = c .before .before .before .before .before .before .before in
     let t : T (every (places (netBy (b .args .counts) (b .args .job .now))) (λ p. leb (at (b .args .lower .now) p) (at (b .args .upper .now) p))) = subst T (sym (not-false (c .before .in-order .result) (c .if1 .left)) ∙ c .before .in-order .ensures) tt in
     record {
       lowerLong = omega (arith, lower-long (b .pre .0) (b .pre .1 .1 .0));
@@ -39,7 +39,7 @@ room-fits-requires c κs =
 
 bounds-only-requires : tie.Need-bounds-only-requires
 bounds-only-requires c κs =
-    let b = c .before .before .before .before .before .before .before .before .before .before .before .before in
+    let b = c .before .before .before .before .before .before .before .before .before .before in
     let n = lower-long (b .pre .0) (b .pre .1 .1 .0) in (
       omega (arith, n, b .pre .1 .1 .1),
       (upper-long (b .pre .0) (b .pre .1 .1 .0) ∙ sym n, omega (arith, n, b .pre .0 .fewStages, b .pre .0 .fewSegments)),
@@ -50,7 +50,7 @@ same-length c = search needs
 
 returns-2 : tie.Need-returns-2
 returns-2 c =
-    let b = c .before .before .before .before .before .before .before .before .before .before .before .before .before .before .before in
+    let b = c .before .before .before .before .before .before .before .before .before .before .before .before .before in
     let o = c .before .before .before .before .before .before .before .in-order in
     let f = c .before .before .before .before .before .room-fits in (
       number-14 (netBy (b .args .counts) (b .args .job .now)) (b .args .lower .now) (b .args .upper .now) (b .pre .1 .1 .0) (o .result) (o .ensures) (not-false _ (c .before .before .before .before .before .before .if1 .left)) (f .result) (f .ensures) (not-true _ (c .before .before .before .before .if2 .taken)),
@@ -65,7 +65,7 @@ same-length-2 c = search needs
 
 returns-3 : tie.Need-returns-3
 returns-3 c =
-    let b = c .before .before .before .before .before .before .before .before .before .before .before .before .before .before .before in
+    let b = c .before .before .before .before .before .before .before .before .before .before .before .before .before in
     let o = c .before .before .before .before .before .before .before .in-order in
     let f = c .before .before .before .before .before .room-fits in (
       number-0 (netBy (b .args .counts) (b .args .job .now)) (b .args .lower .now) (b .args .upper .now) (b .pre .1 .1 .0) (o .result) (o .ensures) (not-false _ (c .before .before .before .before .before .before .if1 .left)) (f .result) (f .ensures) (not-false _ (c .before .before .before .before .if2 .left)),

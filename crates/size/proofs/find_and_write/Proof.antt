@@ -6,32 +6,26 @@ use Rattle.size.proofs.Numbers.{buffer-0}
 use borrow.Author.Needs.{needs}
 use Rattle.size.proofs.find_and_write.Statement.{statement}
 use Rattle.size.proofs.find_and_write.Tie as tie
-
-weigh-requires : tie.Need-weigh-requires
-weigh-requires c κs = search needs
+use Rattle.size.proofs.find_and_write.Reads as reads
+use Rattle.size.proofs.find_and_write.Lts as lts
+use Rattle.reply.proofs.finished.Reads as finished-reads
+use Rattle.size.proofs.least.Reads as least-reads
 
 least-requires : tie.Need-least-requires
 least-requires c κs =
-    let b = c .before .before .before .before .before .before .before .before .before .before .before .before .before .before .before .before .before .before .before .before in
-    let l = b .pre .1 .1 .1 .1 .0 in (
-      b .pre .0,
-      (
-        b .pre .1 .0,
-        (c .before .before .before .before .before .before .before .weigh .ensures, (b .pre .1 .1 .0, ((lower-long (b .pre .0) (b .pre .1 .1 .0) ∙ sym (l .0), b .pre .1 .1 .1 .0 .1), (l .1, l .2)))),
-      ),
-    )
+    let b = c .before .before .before .before .before .before .before .before .before .before in
+    let l = b .pre .1 .1 .1 .0 in
+    (b .pre .0, (b .pre .1 .0, (b .pre .1 .1 .0, (lower-long (b .pre .0) (b .pre .1 .1 .0) ∙ sym (l .0), l .1, l .2))))
 
 finished-requires : tie.Need-finished-requires
 finished-requires c κs =
-    let b = c .before .before .before .before .before .before .before .before .before .before .before .before .before .before .before .before .before .before .before .before .before .before .before .before .before .before .before .before .before .before .before .before in
-    let l = b .pre .1 .1 .1 .1 .0 in
+    let b = c .before .before .before .before .before .before .before .before .before .before .before .before .before .before .before .before .before .before .before .before in
+    let l = b .pre .1 .1 .1 .0 in
     let n = lower-long (b .pre .0) (b .pre .1 .1 .0) in
-    let f = c .before .before .before .before .before .before .before .before .before .before .before .least .kept in (
-      omega (arith, n, b .pre .1 .1 .1 .1 .1),
-      (
-        upper-long (b .pre .0) (b .pre .1 .1 .0) ∙ sym n,
-        (f .1 .1 .1 .1 .1 .1 .1 .1 .1 .0 ∙ l .1 ∙ sym n, f .1 .1 .1 .1 .1 .1 .1 .1 .1 .1 .0 ∙ l .2 ∙ sym n),
-      ),
+    let f = c .before .before .before .before .before .before .before .before .before .least .kept in
+    (
+      omega (arith, n, b .pre .1 .1 .1 .1),
+      (upper-long (b .pre .0) (b .pre .1 .1 .0) ∙ sym n, (f .1 .1 .1 .1 .1 .1 .0 ∙ l .1 ∙ sym n, f .1 .1 .1 .1 .1 .1 .1 .0 ∙ l .2 ∙ sym n)),
     )
 
 same-length : tie.Need-same-length
@@ -46,28 +40,19 @@ same-length-3 c = search needs
 same-length-4 : tie.Need-same-length-4
 same-length-4 c = search needs
 
-same-length-5 : tie.Need-same-length-5
-same-length-5 c = search needs
-
-same-length-6 : tie.Need-same-length-6
-same-length-6 c = search needs
-
 returns : tie.Need-returns
 returns c =
-    let b = c .before .before .before .before .before .before .before .before .before .before .before .before .before .before .before .before .before .before .before .before .before .before .before .before .before .before .before .before .before .before .before .before .before .before .before in
-    buffer-0 (b .pre .0) (b .pre .1 .1 .0) (b .args .reply .now) _ _ _ _ (c .before .before .before .before .before .before .before .before .before .before .before .before .before .before .least .ensures) (c .before .before .finished .ensures)
+    let b = c .before .before .before .before .before .before .before .before .before .before .before .before .before .before .before .before .before .before .before .before .before .before .before in
+    buffer-0 (b .pre .0) (b .pre .1 .1 .0) (b .args .reply .now) _ _ _ _ (c .before .before .before .before .before .before .before .before .before .before .before .before .least .ensures) (c .before .before .finished .ensures)
 
 pub find-and-write-spec : {M : Type 1} → statement M
 find-and-write-spec =
     tie.close
     (tie.spec
-    weigh-requires
     least-requires
     finished-requires
     same-length
     same-length-2
     same-length-3
     same-length-4
-    same-length-5
-    same-length-6
     returns)

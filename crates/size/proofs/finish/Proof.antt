@@ -8,49 +8,46 @@ use Rattle.net.specs.Net.{netBy, places}
 use borrow.Author.Needs.{needs}
 use Rattle.size.proofs.finish.Statement.{statement}
 use Rattle.size.proofs.finish.Tie as tie
+use Rattle.size.proofs.finish.Reads as reads
+use Rattle.size.proofs.finish.Lts as lts
+use Rattle.size.proofs.find_and_write.Reads as find-and-write-reads
 
 add-places : tie.Need-add-places
 add-places c = search needs
 
-slice-aggregate-find-and-write : tie.Need-slice-aggregate-find-and-write
-slice-aggregate-find-and-write c = search needs
-
-slice-aggregate-find-and-write-2 : tie.Need-slice-aggregate-find-and-write-2
-slice-aggregate-find-and-write-2 c = search needs
-
 array-borrow-prefix-x : tie.Need-array-borrow-prefix-x
 array-borrow-prefix-x c = search needs
 
-slice-aggregate-find-and-write-3 : tie.Need-slice-aggregate-find-and-write-3
-slice-aggregate-find-and-write-3 c =
-    let b = c .before .before .before .before .before .before .before .before .before .before in
+slice-aggregate-find-and-write : tie.Need-slice-aggregate-find-and-write
+slice-aggregate-find-and-write c =
+    let b = c .before .before .before .before .before .before in
     let h : places (netBy (b .args .counts) (b .args .job .now)) ≤ 68 = omega (arith, b .pre .0 .fewStages, b .pre .0 .fewSegments) in
     sym (length-take-le {A = ℕ} (places (netBy (b .args .counts) (b .args .job .now))) (replicate 68 0) h)
 
 array-borrow-prefix-lean : tie.Need-array-borrow-prefix-lean
 array-borrow-prefix-lean c = search needs
 
-slice-aggregate-find-and-write-4 : tie.Need-slice-aggregate-find-and-write-4
-slice-aggregate-find-and-write-4 c =
-    let b = c .before .before .before .before .before .before .before .before .before .before .before in
+slice-aggregate-find-and-write-2 : tie.Need-slice-aggregate-find-and-write-2
+slice-aggregate-find-and-write-2 c =
+    let b = c .before .before .before .before .before .before .before in
     let h : places (netBy (b .args .counts) (b .args .job .now)) ≤ 68 = omega (arith, b .pre .0 .fewStages, b .pre .0 .fewSegments) in
     sym (length-take-le {A = ℕ} (places (netBy (b .args .counts) (b .args .job .now))) (replicate 68 0) h)
 
 array-borrow-prefix-wide : tie.Need-array-borrow-prefix-wide
 array-borrow-prefix-wide c = search needs
 
-slice-aggregate-find-and-write-5 : tie.Need-slice-aggregate-find-and-write-5
-slice-aggregate-find-and-write-5 c =
-    let b = c .before .before .before .before .before .before .before .before .before .before .before .before in
+slice-aggregate-find-and-write-3 : tie.Need-slice-aggregate-find-and-write-3
+slice-aggregate-find-and-write-3 c =
+    let b = c .before .before .before .before .before .before .before .before in
     let h : places (netBy (b .args .counts) (b .args .job .now)) ≤ 68 = omega (arith, b .pre .0 .fewStages, b .pre .0 .fewSegments) in
     sym (length-take-le {A = ℕ} (places (netBy (b .args .counts) (b .args .job .now))) (replicate 68 0) h)
 
 find-and-write-requires : tie.Need-find-and-write-requires
 find-and-write-requires c κs =
-    let b = c .before .before .before .before .before .before .before .before .before .before .before .before .before in
+    let b = c .before .before .before .before .before .before .before .before .before in
     let h : places (netBy (b .args .counts) (b .args .job .now)) ≤ 68 = omega (arith, b .pre .0 .fewStages, b .pre .0 .fewSegments) in
     let z = length-take-le {A = ℕ} (places (netBy (b .args .counts) (b .args .job .now))) (replicate 68 0) h in
-    (b .pre .0, (b .pre .1 .0, (b .pre .1 .1 .0, ((h, h), ((z, z, z), b .pre .1 .1 .1)))))
+    (b .pre .0, (b .pre .1 .0, (b .pre .1 .1 .0, ((z, z, z), b .pre .1 .1 .1))))
 
 same-length : tie.Need-same-length
 same-length c = search needs
@@ -63,14 +60,12 @@ finish-spec =
     tie.close
     (tie.spec
     add-places
-    slice-aggregate-find-and-write
-    slice-aggregate-find-and-write-2
     array-borrow-prefix-x
-    slice-aggregate-find-and-write-3
+    slice-aggregate-find-and-write
     array-borrow-prefix-lean
-    slice-aggregate-find-and-write-4
+    slice-aggregate-find-and-write-2
     array-borrow-prefix-wide
-    slice-aggregate-find-and-write-5
+    slice-aggregate-find-and-write-3
     find-and-write-requires
     same-length
     returns)

@@ -1,0 +1,97 @@
+-- `search::start` meets its contract: one sizing where no place is free, else the search from the last free place.
+use Rattle.search.proofs.Starting.{start-sized, start-found, start-one}
+use Rattle.search.proofs.Calls.{allowed-long}
+use Rattle.search.proofs.Tables.{skip-free}
+use Rattle.net.specs.Net.{netBy}
+use Rattle.envelope.specs.Kept.{found}
+use lib.ListN.{length}
+use native.Mathlib.Omega.{arith}
+use Prim.Native.Nat.{_+_}
+use mathlib.Core.Path.{sym, ap, _∙_}
+use borrow.Author.Needs.{needs}
+use Rattle.search.proofs.start.Statement.{statement}
+use Rattle.search.proofs.start.Tie as tie
+use Rattle.search.proofs.start.Reads as reads
+use Rattle.search.proofs.start.Lts as lts
+use Rattle.envelope.proofs.keep.Reads as keep-reads
+use Rattle.search.proofs.fixed_delay.Reads as fixed-delay-reads
+use Rattle.search.proofs.search.Reads as search-reads
+
+fixed-delay-requires : tie.Need-fixed-delay-requires
+fixed-delay-requires c κs =
+    let b = c .before .before .before .before .before .before in
+    (b .pre .0 .checked, (b .pre .0 .weighed, (b .pre .0 .drives, (b .pre .0 .lowerAllowed, omega (arith, allowed-long (netBy (b .args .counts) (b .args .job .now)) (b .args .upper .now) (b .pre .0 .upperAllowed))))))
+
+add-left : tie.Need-add-left
+add-left c = search needs
+
+mul-left : tie.Need-mul-left
+mul-left c = search needs
+
+element-copy-out-left : tie.Need-element-copy-out-left
+element-copy-out-left c = search needs
+
+keep-requires : tie.Need-keep-requires
+keep-requires c κs =
+    let b = c .before .before .before .before .before .before .before .before .before .before .before .before .before in
+    let e = ap length (b .pre .1 .0) ∙ allowed-long (netBy (b .args .counts) (b .args .job .now)) (b .args .lower .now) (b .pre .0 .lowerAllowed) in
+    (e ∙ sym (b .pre .1 .1 .0), e ∙ sym (b .pre .1 .1 .1))
+
+same-length : tie.Need-same-length
+same-length c = search needs
+
+same-length-2 : tie.Need-same-length-2
+same-length-2 c = search needs
+
+same-length-3 : tie.Need-same-length-3
+same-length-3 c = search needs
+
+returns : tie.Need-returns
+returns c =
+    let b = c .before .before .before .before .before .before .before .before .before .before .before .before .before .before .before .before .before .before in
+    start-one (b .pre .0) (c .before .before .before .before .before .before .before .before .before .before .before .fixed-delay .result .0) (found (b .args .least .0) (b .args .lean .now) (b .args .wide .now)) (b .pre .1 .0) (c .before .before .before .before .before .before .before .before .before .before .before .fixed-delay .ensures) (c .before .before .before .before .before .before .before .before .if1 .taken) (c .before .before .before .before .keep .ensures)
+
+search-requires : tie.Need-search-requires
+search-requires c κs =
+    let b = c .before .before .before .before .before .before .before .before .before .before .before .before .before .before in
+    let n = c .before .before .before .before .if1 .left in
+    (
+      b .pre .0,
+      (
+        start-sized (b .pre .0) (c .before .before .before .before .before .before .before .fixed-delay .result .0) (b .pre .1 .0) (c .before .before .before .before .before .before .before .fixed-delay .ensures) (b .pre .1 .1 .0) (b .pre .1 .1 .1),
+        (omega (arith, n), skip-free (b .args .lower .now) (b .args .upper .now) (b .args .counts .stages + b .args .counts .segments) (b .args .skips .now) (b .pre .0 .skipped) (b .args .counts .stages + b .args .counts .segments) (omega arith) n),
+      ),
+    )
+
+same-length-4 : tie.Need-same-length-4
+same-length-4 c = search needs
+
+same-length-5 : tie.Need-same-length-5
+same-length-5 c = search needs
+
+same-length-6 : tie.Need-same-length-6
+same-length-6 c = search needs
+
+returns-2 : tie.Need-returns-2
+returns-2 c =
+    let b = c .before .before .before .before .before .before .before .before .before .before .before .before .before .before .before .before .before .before .before .before .before in
+    start-found (b .pre .0) (b .pre .1 .0) (c .before .before .before .before .before .before .search .ensures)
+
+pub start-spec : {M : Type 1} → statement M
+start-spec =
+    tie.close
+    (tie.spec
+    fixed-delay-requires
+    add-left
+    mul-left
+    element-copy-out-left
+    keep-requires
+    same-length
+    same-length-2
+    same-length-3
+    returns
+    search-requires
+    same-length-4
+    same-length-5
+    same-length-6
+    returns-2)
