@@ -74,7 +74,7 @@ fn best_index(
     ensures { λ r. ⌜ r ≡ best (sideOf side) (allowedOf (netBy counts (now (job .entry)))) (delayOf (netBy counts (now (job .entry)))) (now (sizing .entry)) place ⌝ }
 {
     bytes::copy(sizing, x);
-    refine::settle(job, counts, first, next, x, place, side);
+    refine::refine_at(job, counts, first, next, x, place, side);
     x[place]
 }
 

@@ -1,14 +1,13 @@
 -- What the places drive, from the last place to the first: one place more, and that it is small.
-use mathlib.Core.Path.{_≡_, refl, sym, ap, _∙_}
+use mathlib.Core.Path.{_≡_, sym, ap, _∙_}
 use mathlib.Core.Logic.{_⊎_, inl, inr}
-use mathlib.Core.Bool.{Bool, true, false, cond, false≢true}
+use mathlib.Core.Bool.{false, cond, false≢true}
 use mathlib.Core.List.{List}
-use Prim.Native.Nat.{ℕ, suc, _+_, _*_, _-_, _≤_, _<_}
+use Prim.Native.Nat.{ℕ, suc, _+_, _-_, _≤_, _<_}
 use native.Mathlib.Nat.{eq-or-lt-of-le, mul-le-mul-right}
 use native.Mathlib.Decide.{decLe}
 use native.Mathlib.Omega.{arith}
 use borrow.Author.Tests.{lt-ltb, le-ltb}
-use lib.Dec.{ltb}
 use lib.ListN.{length, set, length-set}
 use lib.Seq.{getD-set-same, getD-set-other}
 use Rattle.lattice.specs.Lists.{at}
@@ -116,7 +115,7 @@ module _ (net : Net) (o : Ordered net) (l : Limited net) (lower upper : List ℕ
           arith,
           i .gathers .held r h,
           gathered-small (places net) (hangsAt net) (heldLoad net lower upper driven) (suc p) r 13000000
-          (λ q m k. omega (arith, held-less driven (suc p) (i .drives) q m k, load-most net l q (at lower q) (drivenLoad net lower q) k (allowed-iff net lower .0 low .high q k) (driven-small net o l lower low q k))),
+              (λ q m k. omega (arith, held-less driven (suc p) (i .drives) q m k, load-most net l q (at lower q) (drivenLoad net lower q) k (allowed-iff net lower .0 low .high q k) (driven-small net o l lower low q k))),
           mul-le-mul-right 13000000 (places-few),
         )
       where

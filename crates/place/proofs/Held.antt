@@ -7,15 +7,15 @@ use Prim.Native.Nat.{ℕ, zero, suc, _+_, _*_, _-_, _≤_, _<_}
 use native.Mathlib.Nat.{eq-or-lt-of-le}
 use native.Mathlib.Decide.{decLe}
 use native.Mathlib.Omega.{arith}
-use borrow.Author.Tests.{lt-ltb, le-ltb, ltb-true, ltb-false, eqb-true, eqb-false, eq-eqb, ne-eqb}
+use borrow.Author.Tests.{lt-ltb, le-ltb, ltb-true, ltb-false, eqb-true, eqb-false, ne-eqb}
 use lib.Dec.{eqb, ltb}
 use Rattle.lattice.specs.Lists.{at, sum}
 use Rattle.lattice.proofs.ListLaws.{sum-le}
 use Rattle.net.specs.Net.{Net, places}
-use Rattle.net.specs.Delay.{branches, branch, branchLoad, branchesLoad, ownLoad, loadUnder, stageLoad}
+use Rattle.net.specs.Delay.{branches, branch, branchesLoad, ownLoad, loadUnder, stageLoad}
 use Rattle.net.specs.Places.{placeWeight, delayAt, loadAt, drivenLoad, placeLoad}
 use Rattle.net.proofs.Sum.{sum-same, sum-add, sum-zero, sum-only}
-use Rattle.net.proofs.Branches.{cond-same, forest-branches, branches-are}
+use Rattle.net.proofs.Branches.{forest-branches, branches-are}
 use Rattle.net.proofs.Places.{sum-split, segment-load, stage-load}
 use Rattle.place.specs.Held.{hangsAt, behind, sinkAt, slope, before}
 use Rattle.place.proofs.Behind.{eqb-iff, gather, carried}
@@ -231,7 +231,7 @@ module _ (net : Net) (parents : (i : ℕ) → i < net .segments → net .parent 
 
   module _ (price : ℕ → ℕ)
       (priced : (q : ℕ) → q < places net
-        → price q * more q ≡ before (λ a. cond (free a) 0 (slope net a (k a) + cond (ltb a (net .stages)) 0 (price a))) (hangsAt net q) * more q) where
+      → price q * more q ≡ before (λ a. cond (free a) 0 (slope net a (k a) + cond (ltb a (net .stages)) 0 (price a))) (hangsAt net q) * more q) where
     -- what the held places are charged is the price of what the free ones show
     owed : sum (places net) (λ a. cond (free a) 0 (slope net a (k a)) * behind net more a) ≡ sum (places net) (λ q. cond (free q) (price q * more q) 0)
     unfolding behind

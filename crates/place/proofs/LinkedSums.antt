@@ -2,17 +2,14 @@
 use mathlib.Core.Path.{_≡_, refl, sym, ap, _∙_}
 use mathlib.Core.Bool.{Bool, true, false, cond}
 use mathlib.Core.List.{List}
-use Prim.Native.Nat.{ℕ, zero, suc, _+_, _-_, _≤_, _<_}
+use Prim.Native.Nat.{ℕ, zero, suc, _+_, _≤_, _<_}
 use native.Mathlib.Decide.{decLe}
-use native.Mathlib.Numerals.{add-one}
 use native.Mathlib.Omega.{arith}
-use borrow.Author.Tests.{lt-ltb, le-ltb, ltb-true, ltb-false, eqb-false, eq-eqb, ne-eqb}
-use lib.Dec.{eqb, ltb}
+use borrow.Author.Tests.{lt-ltb, le-ltb, ltb-true}
+use lib.Dec.{ltb}
 use Rattle.lattice.specs.Lists.{at}
-use Rattle.net.specs.Net.{Net, places}
-use Rattle.net.specs.Delay.{branches, branch, ownLoad, branchesLoad, loadUnder, stageLoad}
-use Rattle.net.specs.Places.{drivenLoad, LoadsFrom}
-use Rattle.net.proofs.Places.{segment-load, stage-load}
+use Rattle.net.specs.Net.{Net}
+use Rattle.net.specs.Delay.{branches, branch}
 use Rattle.links.specs.Links.{Linked, siblings}
 use Rattle.links.proofs.Siblings.{siblings-none, siblings-step, siblings-branches, first-behind}
 use Rattle.place.specs.Partial.{linkedSum, nodeSum}

@@ -1,22 +1,21 @@
 -- One place of a sizing, the rest held: by how much its index changes the delay of the whole net is told by its own delay and by its load, times the weighted resistance upstream.
 use mathlib.Core.Path.{_≡_, refl, sym, ap, _∙_}
-use mathlib.Core.Logic.{_⊎_, inl, inr}
 use mathlib.Core.Bool.{Bool, true, false, cond}
 use mathlib.Core.List.{List}
 use Prim.Native.Nat.{ℕ, suc, _+_, _*_, _-_, _≤_, _<_}
 use native.Mathlib.Decide.{decLe}
 use native.Mathlib.Omega.{arith}
-use borrow.Author.Tests.{le-ltb, eqb-true, eqb-false, eq-eqb, ne-eqb}
+use borrow.Author.Tests.{le-ltb, eqb-true, eqb-false, ne-eqb}
 use lib.Dec.{eqb, ltb}
 use lib.ListN.{length, set}
 use lib.Seq.{getD-set-same, getD-set-other}
-use Rattle.lattice.specs.Lists.{at, sum}
+use Rattle.lattice.specs.Lists.{at}
 use Rattle.net.specs.Net.{Net, places}
 use Rattle.net.specs.Delay.{delay}
 use Rattle.net.specs.Places.{placeWeight, delayAt, loadAt, drivenLoad, placeDelay, placeLoad}
 use Rattle.net.proofs.Sum.{sum-same}
 use Rattle.net.proofs.Places.{places-delay, driven-reads, placeLoad-reads}
-use Rattle.place.specs.Held.{hangsAt, behind, sinkAt, slope, before, onward, UpstreamTo}
+use Rattle.place.specs.Held.{hangsAt, behind, sinkAt, slope, before, UpstreamTo}
 use Rattle.place.proofs.Held.{sum-at, sum-apart, before-same, hangs-falls, driven-behind, apart}
 
 module _ (net : Net) (parents : (i : ℕ) → i < net .segments → net .parent i ≤ i) (x : List ℕ) (long : length x ≡ places net)

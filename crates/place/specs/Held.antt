@@ -1,14 +1,14 @@
 -- What is known of a net before its free places are sized: the loads and the upstream resistances that the places with one index give. Cited by the contracts
 -- of the code that refines and searches; `proofs/Held` shows what the delay is by them, so a reader need not believe this file.
 use mathlib.Core.Path.{_≡_}
-use mathlib.Core.Bool.{Bool, true, false, cond}
+use mathlib.Core.Bool.{Bool, cond}
 use mathlib.Core.List.{List}
 use Prim.Native.Nat.{ℕ, zero, suc, _+_, _*_, _-_, _≤_, _<_}
 use lib.Dec.{ltb, eqb}
 use lib.ListN.{length}
 use Rattle.lattice.specs.Lists.{at, sum}
 use Rattle.net.specs.Net.{Net, places}
-use Rattle.net.specs.Places.{placeWeight, delayAt, loadAt}
+use Rattle.net.specs.Places.{placeWeight, loadAt}
 
 -- The node that place p hangs at, where the stages are a chain before the tree: node 0 is before the first stage, `suc p` behind place p.
 unfoldable pub hangsAt : Net → ℕ → ℕ

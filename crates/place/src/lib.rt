@@ -170,15 +170,7 @@ pub fn upstream_at(
     if node == 0 {
         return 0;
     }
-    onward(
-        job,
-        counts,
-        weights,
-        lower,
-        upper,
-        upstream,
-        node - 1,
-    )
+    onward(job, counts, weights, lower, upper, upstream, node - 1)
 }
 
 // The weighted upstream resistances of the first n places.
@@ -289,7 +281,13 @@ pub fn step(
 }
 
 // The weight of the sinks at or below each segment's far end, from the last segment to the first.
-fn weigh_segments(job: &[u8], counts: Counts, first: &[usize], next: &[usize], weights: &mut [u64; 68])
+fn weigh_segments(
+    job: &[u8],
+    counts: Counts,
+    first: &[usize],
+    next: &[usize],
+    weights: &mut [u64; 68],
+)
     requires { ⌜ Checked counts (now job) ⌝ }
     requires { ⌜ Linked (netBy counts (now job)) (now first) (now next) ⌝ }
     requires { ⌜ counts .stages + counts .segments ≤ length (now weights) ⌝ }
@@ -305,7 +303,13 @@ fn weigh_segments(job: &[u8], counts: Counts, first: &[usize], next: &[usize], w
 }
 
 // The weights of the stages, each twice that of all sinks, where those of the segments are known.
-fn weigh_stages(job: &[u8], counts: Counts, first: &[usize], next: &[usize], weights: &mut [u64; 68])
+fn weigh_stages(
+    job: &[u8],
+    counts: Counts,
+    first: &[usize],
+    next: &[usize],
+    weights: &mut [u64; 68],
+)
     requires { ⌜ Checked counts (now job) ⌝ }
     requires { ⌜ Linked (netBy counts (now job)) (now first) (now next) ⌝ }
     requires { ⌜ WeightsFrom (netBy counts (now job)) (counts .stages) (now weights) ⌝ }

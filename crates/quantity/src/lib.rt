@@ -1,4 +1,4 @@
-// Resistance, capacitance and scaled delay, kept apart: one struct each. Only the functions here multiply or add them.
+// Resistance, capacitance and scaled delay, kept apart: one struct each. Only the functions here multiply them, and tables of them are plain numbers.
 ghost use mathlib.Core.Path.{_≡_};
 ghost use Prim.Native.Nat.{_+_, _*_, _^_, _<_};
 

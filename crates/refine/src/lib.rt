@@ -91,15 +91,7 @@ pub fn refine_at(
     let mut driven = [0u64; 68];
     place::drive(job, counts, x, x, &mut driven);
     let mut upstream = [0u64; 68];
-    place::go_upstream(
-        job,
-        counts,
-        &weights,
-        x,
-        x,
-        &mut upstream,
-        place + 1,
-    );
+    place::go_upstream(job, counts, &weights, x, x, &mut upstream, place + 1);
     settle(
         job,
         counts,

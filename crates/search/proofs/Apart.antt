@@ -3,9 +3,9 @@
 use mathlib.Core.Path.{_≡_, refl, sym, ap, _∙_}
 use mathlib.Core.Bool.{Bool, true, false, cond, not, true≢false, false≢true}
 use mathlib.Core.List.{List}
-use Prim.Native.Nat.{ℕ, zero, suc, _+_, _*_, _-_, _≤_, _<_}
+use Prim.Native.Nat.{ℕ, zero, suc, _+_, _*_, _≤_, _<_}
 use native.Mathlib.Omega.{arith}
-use borrow.Author.Tests.{lt-ltb, le-ltb, eqb-true, ne-eqb}
+use borrow.Author.Tests.{le-ltb, ne-eqb}
 use lib.Dec.{eqb, ltb}
 use Rattle.lattice.specs.Lists.{at, sum}
 use Rattle.net.specs.Net.{Net, places}
@@ -16,7 +16,7 @@ use Rattle.net.proofs.Sum.{sum-same, sum-only}
 use Rattle.net.proofs.Places.{places-delay}
 use Rattle.place.specs.Held.{hangsAt, behind, sinkAt, before, sumAfter, free, heldLoad, DrivenFrom, UpstreamTo}
 use Rattle.place.proofs.Behind.{eqb-iff, gather, carried}
-use Rattle.place.proofs.Held.{before-same, hangs-falls, driven-behind, more, behind-more, more-held, apart}
+use Rattle.place.proofs.Held.{hangs-falls, driven-behind, more, behind-more, more-held, apart}
 use Rattle.search.specs.Searching.{arrives, UpsTo, fixedFrom, freeLoad, pricedFrom}
 
 -- a load arrives at no node behind its place

@@ -1,7 +1,7 @@
 -- Where a search starts: x is the lower bound, and no free place is sized yet.
 use mathlib.Core.Path.{_≡_, refl, sym, ap, _∙_}
 use mathlib.Core.List.{List}
-use Prim.Native.Nat.{ℕ, _+_, _<_}
+use Prim.Native.Nat.{ℕ}
 use native.Mathlib.Omega.{arith}
 use lib.ListN.{length, replicate, length-replicate, getD-replicate}
 use Rattle.lattice.specs.Lists.{at}
@@ -9,11 +9,10 @@ use Rattle.lattice.specs.Search.{Found, take, takes, cover}
 use Rattle.net.specs.declared.Counts.{Counts}
 use Rattle.net.specs.Net.{Net, places, netBy}
 use Rattle.net.specs.Delay.{delay}
-use Rattle.net.specs.Places.{placeDelay, placeLoad}
 use Rattle.net.proofs.Questions.{ordered}
 use Rattle.place.proofs.After.{after-none}
 use Rattle.place.proofs.Gathering.{gathering-start}
-use Rattle.search.specs.Searching.{fixedFrom, freeLoad, pricedFrom, UpsTo, SkipsTo, Bounds, Prepared, Sized, Searched}
+use Rattle.search.specs.Searching.{fixedFrom, freeLoad, pricedFrom, Prepared, Sized, Searched}
 use Rattle.search.proofs.Apart.{delay-apart}
 use Rattle.search.proofs.Tables.{skip-le, priced-skip, gathers-skip, takes-skip}
 

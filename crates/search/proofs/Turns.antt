@@ -1,16 +1,14 @@
 -- The turns of the search's loops over the indices of one free place: what each asks, and what it yields.
 use mathlib.Core.Path.{_≡_, refl, sym, ap, _∙_}
 use mathlib.Core.Logic.{⊎-elim}
-use mathlib.Core.Bool.{Bool, true, false, cond, true≢false}
+use mathlib.Core.Bool.{true, false, cond, true≢false}
 use mathlib.Core.List.{List, flatMap}
-use Prim.Native.Nat.{ℕ, zero, suc, _+_, _*_, _-_, _^_, _≤_, _<_}
+use Prim.Native.Nat.{ℕ, suc, _+_, _*_, _-_, _^_, _≤_, _<_}
 use native.Mathlib.Nat.{eq-or-lt-of-le}
-use native.Mathlib.Numerals.{add-one}
 use native.Mathlib.Omega.{arith}
-use borrow.Author.Tests.{lt-ltb, le-ltb, ne-eqb}
-use lib.Dec.{eqb, ltb}
+use borrow.Author.Tests.{le-ltb, ne-eqb}
 use lib.ListN.{length, set, length-set}
-use lib.Seq.{getD-set-same, getD-set-other, set-set, set-getD}
+use lib.Seq.{getD-set-same, getD-set-other}
 use Rattle.lattice.specs.Lists.{at, from, span}
 use Rattle.lattice.specs.Space.{Allowed}
 use Rattle.lattice.specs.Search.{Found, take, takes, cover}
@@ -24,7 +22,7 @@ use Rattle.net.specs.Places.{placeWeight, delayAt, loadAt, drivenLoad, placeDel
 use Rattle.net.proofs.Places.{driven-reads, placeLoad-reads, placeDelay-reads}
 use Rattle.net.proofs.Bound.{delay-fits}
 use Rattle.net.proofs.Questions.{ordered, limited, allowed-iff, allowed-ranges}
-use Rattle.place.specs.Held.{free, sumAfter, GatheredFrom}
+use Rattle.place.specs.Held.{free, GatheredFrom}
 use Rattle.place.proofs.After.{after-step, after-same, after-le}
 use Rattle.place.proofs.Gathering.{gathered-all, gathering-step}
 use Rattle.search.specs.Searching.{fixedFrom, freeLoad, pricedFrom, Prepared, Sized, Searched}
@@ -113,8 +111,8 @@ module _ {c : Counts} {job weights upstream driven ups skips lower upper : List 
         after-step (places net) (λ q. cond (free lower upper q) (placeDelay net y q + at upstream q * placeLoad net y q) 0) p few
         ∙ cc (
           after-same (places net) (λ q. cond (free lower upper q) (placeDelay net y q + at upstream q * placeLoad net y q) 0)
-          (λ q. cond (free lower upper q) (placeDelay net x₀ q + at upstream q * placeLoad net x₀ q) 0) (suc p)
-          (λ q h m. rw (placeDelay-reads net falls y x₀ q m (λ s a b. y-after s (omega arith) b), placeLoad-reads net falls y x₀ q m (λ s a b. y-after s (omega arith) b))),
+              (λ q. cond (free lower upper q) (placeDelay net x₀ q + at upstream q * placeLoad net x₀ q) 0) (suc p)
+              (λ q h m. rw (placeDelay-reads net falls y x₀ q m (λ s a b. y-after s (omega arith) b), placeLoad-reads net falls y x₀ q m (λ s a b. y-after s (omega arith) b))),
           here,
         )
       where

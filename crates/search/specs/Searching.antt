@@ -1,6 +1,6 @@
 -- What the search asks of its tables and its state, and what it leaves: cited by the contracts of this crate.
 use mathlib.Core.Path.{_≡_}
-use mathlib.Core.Bool.{Bool, true, false, cond}
+use mathlib.Core.Bool.{false, cond}
 use mathlib.Core.List.{List}
 use Prim.Native.Nat.{ℕ, suc, _+_, _*_, _≤_, _<_}
 use lib.Dec.{ltb}
@@ -12,7 +12,7 @@ use Rattle.net.specs.declared.Counts.{Counts}
 use Rattle.net.specs.Net.{Net, places, netBy}
 use Rattle.net.specs.Delay.{delay}
 use Rattle.net.specs.Sizings.{allowed}
-use Rattle.net.specs.Places.{placeWeight, delayAt, drivenLoad, placeDelay, placeLoad}
+use Rattle.net.specs.Places.{placeWeight, delayAt, placeDelay, placeLoad}
 use Rattle.net.specs.Checked.{Checked}
 use Rattle.place.specs.Partial.{WeightsFrom}
 use Rattle.place.specs.Held.{hangsAt, before, sumAfter, free, GatheredFrom, DrivenFrom, UpstreamTo}

@@ -21,7 +21,14 @@ ghost use Rattle.place.specs.Held.{hangsAt, before, free, DrivenFrom};
 ghost use Rattle.search.specs.Searching.{arrives, UpsTo, SkipsTo, fixedFrom, Bounds, Prepared, Sized, Searched};
 
 // The node at which a load at `node` arrives, through the held segments above it.
-fn arrival(counts: Counts, lower: &[u8], upper: &[u8], ups: &[usize; 68], job: &[u8], node: usize) -> usize
+fn arrival(
+    counts: Counts,
+    lower: &[u8],
+    upper: &[u8],
+    ups: &[usize; 68],
+    job: &[u8],
+    node: usize,
+) -> usize
     requires { ⌜ Checked counts (now job) ⌝ }
     requires { ⌜ (counts .stages + counts .segments ≤ length (now lower)) × (counts .stages + counts .segments ≤ length (now upper)) ⌝ }
     requires { ⌜ node ≤ counts .stages + counts .segments ⌝ }
@@ -300,15 +307,7 @@ pub fn between(
     place::drive(job, counts, lower, upper, &mut driven);
     let mut upstream = [0u64; 68];
     let places = counts.stages + counts.segments;
-    place::go_upstream(
-        job,
-        counts,
-        weights,
-        lower,
-        upper,
-        &mut upstream,
-        places,
-    );
+    place::go_upstream(job, counts, weights, lower, upper, &mut upstream, places);
     let mut ups = [0usize; 68];
     lift(job, counts, lower, upper, &mut ups);
     let mut skips = [0usize; 69];

@@ -14,7 +14,7 @@ use Rattle.lattice.proofs.Searching.{Finds, cover-finds}
 use Rattle.net.specs.declared.Counts.{Counts}
 use Rattle.net.specs.Net.{places, netBy}
 use Rattle.net.specs.Delay.{delay}
-use Rattle.net.specs.Sizings.{allowed, lean, wide, lowerBound, upperBound, room}
+use Rattle.net.specs.Sizings.{allowed, lean, wide, lowerBound, upperBound}
 use Rattle.net.specs.Checked.{Checked}
 use Rattle.net.proofs.Dominance.{allowed-lattice}
 use Rattle.net.proofs.Questions.{lowestSizing, allowed-iff, checked-allowed, checked-submodular, checked-fits}

@@ -99,8 +99,7 @@ shown-load-requires : tie.Need-shown-load-requires Inv-loop μ-loop
 shown-load-requires c κs =
     let b = c .before .before .before .before .before .before .before .before .before .before .before .before in
     let l = c .before .before .before .before .before .before .before .loop in
-    let e : l .p - 1 + 1 ≡ suc (l .p - 1) = omega arith in
-    (
+    let e : l .p - 1 + 1 ≡ suc (l .p - 1) = omega arith in (
       b .pre .0,
       (
         omega (arith, l .inv .1),

@@ -1,5 +1,5 @@
 -- `place::hangs_at` meets its contract: a place is a stage or a segment.
-use Prim.Native.Nat.{_+_, _-_}
+use Prim.Native.Nat.{_-_}
 use native.Mathlib.Omega.{arith}
 use Rattle.net.specs.Net.{netBy}
 use Rattle.place.proofs.Steps.{hangs-stage, hangs-segment}

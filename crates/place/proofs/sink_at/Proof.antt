@@ -1,6 +1,6 @@
 -- `place::sink_at` meets its contract: a place is a stage or a segment.
-use mathlib.Core.Path.{_≡_, sym}
-use Prim.Native.Nat.{_+_, _-_}
+use mathlib.Core.Path.{sym}
+use Prim.Native.Nat.{_-_}
 use native.Mathlib.Omega.{arith}
 use Rattle.net.specs.Net.{netBy}
 use Rattle.place.proofs.Steps.{sink-stage, sink-segment}

@@ -41,8 +41,7 @@ array-read-t29 c = search needs
 
 settle-requires : tie.Need-settle-requires
 settle-requires c κs =
-    let b = c .before .before .before .before .before .before .before .before .before .before .before .before .before .before .before .before in
-    (
+    let b = c .before .before .before .before .before .before .before .before .before .before .before .before .before .before .before .before in (
       b .pre .0,
       (
         c .before .before .before .before .before .before .before .before .before .before .weigh .ensures,

@@ -205,8 +205,7 @@ search-search-requires : (t : ℕ) → search-lts.Need-search-requires (search-c
 search-search-requires t c κs =
     let b = c .before .before .before .before .before .before .before .before .before .before .before .before .before .before .before .before .before .before .before .before .before .before .before .before .before .before in
     let l = c .before .before .before .before .before .before .before .before .before .loop in
-    let n = c .before .before .before .before .before .before .before .before .before .before .before .before .before .before .before .before .before .before .if1 .left in
-    (
+    let n = c .before .before .before .before .before .before .before .before .before .before .before .before .before .before .before .before .before .before .if1 .left in (
       omega (arith, rest-low (b .pre .1 .0) (b .pre .1 .1 .0) (b .args .least .0) (b .pre .1 .1 .1 .0) (b .pre .1 .1 .1 .1), b .pre .0, b .pre .1 .1 .1 .0),
       (
         b .pre .1 .0,
@@ -230,8 +229,7 @@ search-loop-again : (t : ℕ) → search-lts.Need-loop-again (search-claims t) (
 search-loop-again t c =
     let b = c .before .before .before .before .before .before .before .before .before .before .before .before .before .before .before .before .before .before .before .before .before .before .before .before .before .before .before .before .before .before .before .before .before in
     let l = c .before .before .before .before .before .before .before .before .before .before .before .before .before .before .before .before .loop in
-    let r = c .before .before .before .before .before .before .search in
-    (
+    let r = c .before .before .before .before .before .before .search in (
       done (b .pre .1 .0) (b .pre .1 .1 .0) (b .args .least .0) (b .pre .1 .1 .1 .0) (b .pre .1 .1 .1 .1) (l .inv .0) (c .before .before .before .before .before .before .before .before .before .before .before .before .before .before .before .loop-test .taken) _ (r .kept .1 .1 .1 .1 .1 .1 .1 .1 .1 .1 .1 .1 .1 .1 .0) (r .kept .1 .1 .1 .1 .1 .1 .1 .1 .1 .1 .1 .1 .1 .1 .1 .0) (r .ensures),
       λ w. ap (λ (g : List ℕ). set g (at (b .args .ups .now) (b .args .left - 1)) w) (r .ensures .gathers) ∙ set-set (l .gathered) (at (b .args .ups .now) (b .args .left - 1)) _ w ∙ l .inv .1 w,
     )

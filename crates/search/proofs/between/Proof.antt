@@ -38,8 +38,7 @@ skip-requires c κs =
 
 start-requires : tie.Need-start-requires
 start-requires c κs =
-    let b = c .before .before .before .before .before .before .before .before .before .before .before .before .before .before .before .before .before .before .before .before .before .before in
-    (
+    let b = c .before .before .before .before .before .before .before .before .before .before .before .before .before .before .before .before .before .before .before .before .before .before in (
       record {
         checked = b .pre .0 .checked;
         weighed = b .pre .0 .weighed;

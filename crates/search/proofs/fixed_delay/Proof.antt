@@ -80,8 +80,7 @@ step-requires : tie.Need-step-requires Inv-loop μ-loop
 step-requires c κs =
     let b = c .before .before .before .before .before .before .before .before .before .before .before .before in
     let l = c .before .before .before .before .before .before .before .loop in
-    let h : l .p - 1 < b .args .counts .stages + b .args .counts .segments = omega (arith, l .inv .1, c .before .before .before .before .before .before .loop-test .taken) in
-    (
+    let h : l .p - 1 < b .args .counts .stages + b .args .counts .segments = omega (arith, l .inv .1, c .before .before .before .before .before .before .loop-test .taken) in (
       b .pre .0,
       (
         h,

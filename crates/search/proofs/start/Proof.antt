@@ -54,8 +54,7 @@ returns c =
 search-requires : tie.Need-search-requires
 search-requires c κs =
     let b = c .before .before .before .before .before .before .before .before .before .before .before .before .before .before in
-    let n = c .before .before .before .before .if1 .left in
-    (
+    let n = c .before .before .before .before .if1 .left in (
       b .pre .0,
       (
         start-sized (b .pre .0) (c .before .before .before .before .before .before .before .fixed-delay .result .0) (b .pre .1 .0) (c .before .before .before .before .before .before .before .fixed-delay .ensures) (b .pre .1 .1 .0) (b .pre .1 .1 .1),

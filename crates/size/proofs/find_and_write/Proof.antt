@@ -22,8 +22,7 @@ finished-requires c κs =
     let b = c .before .before .before .before .before .before .before .before .before .before .before .before .before .before .before .before .before .before .before .before in
     let l = b .pre .1 .1 .1 .0 in
     let n = lower-long (b .pre .0) (b .pre .1 .1 .0) in
-    let f = c .before .before .before .before .before .before .before .before .before .least .kept in
-    (
+    let f = c .before .before .before .before .before .before .before .before .before .least .kept in (
       omega (arith, n, b .pre .1 .1 .1 .1),
       (upper-long (b .pre .0) (b .pre .1 .1 .0) ∙ sym n, (f .1 .1 .1 .1 .1 .1 .0 ∙ l .1 ∙ sym n, f .1 .1 .1 .1 .1 .1 .1 .0 ∙ l .2 ∙ sym n)),
     )
