@@ -2,10 +2,11 @@
 //! Nothing is shared with the library. A job that passes the questions is read in place, through slices of its records.
 //!
 //! Three ways to go:
-//! (a) as the library goes: the delay by a walk over the branches, the search with partial sums;
-//! (b) the delay as in (a), and the search by the whole delay of each sizing;
-//! (c) the fastest that we know: the delay by one pass without recursion, the search as in (a), with a loop for each run
-//!     of places that have one index.
+//! (a) as the library goes: the delay by a walk over the branches; the best index of a place by what it drives and the
+//!     resistance upstream of it; the search through the free places, with what the held ones give summed once;
+//! (b) the delay as in (a), and a whole delay for each index that is refined and for each sizing that is searched;
+//! (c) the delay by one pass without recursion, and so at each index that is refined; the search through all places,
+//!     with the loads and the delay so far carried along.
 
 /// A record of a job.
 pub type Record = [u8; 16];
@@ -359,8 +360,219 @@ impl Found<'_> {
     }
 }
 
-/// The search that carries loads and delay along, from the last place to the first.
+/// What a place adds at one of its indices: its part of the delay, and the load that it shows.
+struct Step {
+    delay: u64,
+    load: u64,
+}
+
+impl Net<'_> {
+    /// The node that a place hangs at; node n above 0 is behind place n - 1.
+    fn hangs(&self, p: usize) -> usize {
+        let stages = self.stages.len();
+        if p < stages {
+            p
+        } else {
+            stages + usize::from(self.segments[p - stages][2])
+        }
+    }
+
+    /// The length of a place that is a segment.
+    fn length(&self, p: usize) -> Option<u64> {
+        Some(word(&self.segments[p.checked_sub(self.stages.len())?], 4))
+    }
+
+    /// The step of a place to an index, over the load that it drives.
+    #[inline(always)]
+    fn step(&self, weight: u64, length: Option<u64>, k: u8, driven: u64) -> Step {
+        match length {
+            None => {
+                let size = &self.sizes[usize::from(k)];
+                Step {
+                    delay: weight * (word(size, 4) * (word(size, 12) + driven)),
+                    load: word(size, 8),
+                }
+            }
+            Some(length) => {
+                let row = &self.widths[usize::from(k)];
+                let own = word(row, 8) * length;
+                Step {
+                    delay: weight * (word(row, 4) * length * (own + 2 * driven)),
+                    load: own + driven,
+                }
+            }
+        }
+    }
+
+    /// How the weighted delay of a place grows with each unit of the load that it drives.
+    fn slope(&self, weight: u64, p: usize, k: u8) -> u64 {
+        let stages = self.stages.len();
+        if p < stages {
+            weight * word(&self.sizes[usize::from(k)], 4)
+        } else {
+            2 * weight * (word(&self.widths[usize::from(k)], 4) * word(&self.segments[p - stages], 4))
+        }
+    }
+}
+
+/// The sums of a net whose places are held at one index each, or free: the loads that the places drive, and what the
+/// delay grows by with each unit of the load that a place shows. A free place shows no load.
+struct Sums {
+    weights: [u64; PLACES],
+    driven: [u64; PLACES],
+    upstream: [u64; PLACES],
+}
+
+impl Sums {
+    fn new(net: &Net, links: &Links) -> Self {
+        let mut sums = Sums {
+            weights: [0; PLACES],
+            driven: [0; PLACES],
+            upstream: [0; PLACES],
+        };
+        net.weigh(links, &mut sums.weights[..net.places()]);
+        sums
+    }
+
+    /// One pass from the last place to the first: each held place adds the load that it shows where it hangs.
+    fn hold(&mut self, net: &Net, lower: &[u8], upper: &[u8]) {
+        let mut gathered = [0; PLACES + 1];
+        for p in (0..net.places()).rev() {
+            let sink = match p.checked_sub(net.stages.len()) {
+                Some(i) => word(&net.segments[i], 8),
+                None => 0,
+            };
+            self.driven[p] = sink + gathered[p + 1];
+            if lower[p] >= upper[p] {
+                gathered[net.hangs(p)] += net.step(0, net.length(p), lower[p], self.driven[p]).load;
+            }
+        }
+    }
+
+    /// The upstream of a place's load, from those of the places before it.
+    fn go_upstream(&mut self, net: &Net, lower: &[u8], upper: &[u8], p: usize) {
+        self.upstream[p] = match net.hangs(p).checked_sub(1) {
+            Some(a) if lower[a] == upper[a] => {
+                let own = net.slope(self.weights[a], a, lower[a]);
+                if a < net.stages.len() { own } else { own + self.upstream[a] }
+            }
+            _ => 0,
+        };
+    }
+
+    /// The best index of a place, the rest held.
+    fn settled(&self, net: &Net, p: usize, side: Side) -> u8 {
+        let (weight, driven, upstream) = (self.weights[p], self.driven[p], self.upstream[p]);
+        let length = net.length(p);
+        let value = |k| {
+            let step = net.step(weight, length, k, driven);
+            step.delay + upstream * step.load
+        };
+        let (mut k, high) = (net.lowest(p), net.highest(p));
+        let mut best = k;
+        let mut least = value(k);
+        while k < high {
+            k += 1;
+            let d = value(k);
+            if d < least || (d == least && side == Side::Above) {
+                least = d;
+                best = k;
+            }
+        }
+        best
+    }
+
+    /// The bound from a side, by sweeps until nothing changes.
+    fn bound(&mut self, net: &Net, x: &mut [u8], side: Side) {
+        for (p, index) in x.iter_mut().enumerate() {
+            *index = if side == Side::Below { net.lowest(p) } else { net.highest(p) };
+        }
+        loop {
+            self.hold(net, x, x);
+            let mut changed = false;
+            for p in 0..x.len() {
+                self.go_upstream(net, x, x, p);
+                let best = self.settled(net, p, side);
+                changed |= x[p] != best;
+                x[p] = best;
+            }
+            if !changed {
+                return;
+            }
+        }
+    }
+}
+
+/// The search over the free places, from the last to the first. Loads go past held segments at once.
 struct Search<'a, 'f> {
+    net: Net<'a>,
+    sums: &'a Sums,
+    lower: &'a [u8],
+    upper: &'a [u8],
+    x: &'a mut [u8],
+    ups: [usize; PLACES],
+    skips: [usize; PLACES + 1],
+    gathered: [u64; PLACES + 1],
+    found: &'a mut Found<'f>,
+}
+
+impl Search<'_, '_> {
+    fn all(&mut self) {
+        let places = self.net.places();
+        self.x.copy_from_slice(self.lower);
+        let mut fixed = 0;
+        for p in 0..places {
+            let held = self.lower[p] == self.upper[p];
+            let node = self.net.hangs(p);
+            self.ups[p] = if node > self.net.stages.len() && self.lower[node - 1] == self.upper[node - 1] {
+                self.ups[node - 1]
+            } else {
+                node
+            };
+            self.skips[p + 1] = if held { self.skips[p] } else { p + 1 };
+            if held {
+                let (weight, driven) = (self.sums.weights[p], self.sums.driven[p]);
+                fixed += self.net.step(weight, self.net.length(p), self.lower[p], driven).delay;
+            }
+        }
+        match self.skips[places] {
+            0 => self.found.keep(self.x, fixed),
+            left => self.places_before(left, fixed),
+        }
+    }
+
+    /// Takes every sizing that has the indices of x from `left` on; the place before `left` is free.
+    fn places_before(&mut self, left: usize, added: u64) {
+        let p = left - 1;
+        let (weight, upstream) = (self.sums.weights[p], self.sums.upstream[p]);
+        let driven = self.sums.driven[p] + self.gathered[p + 1];
+        let length = self.net.length(p);
+        let rest = self.skips[p];
+        if rest == 0 {
+            for k in self.lower[p]..=self.upper[p] {
+                let step = self.net.step(weight, length, k, driven);
+                let reached = added + step.delay + upstream * step.load;
+                if reached <= self.found.least {
+                    self.x[p] = k;
+                    self.found.keep(self.x, reached);
+                }
+            }
+            return;
+        }
+        let node = self.ups[p];
+        let before = self.gathered[node];
+        for k in self.lower[p]..=self.upper[p] {
+            let step = self.net.step(weight, length, k, driven);
+            self.x[p] = k;
+            self.gathered[node] = before + step.load;
+            self.places_before(rest, added + step.delay + upstream * step.load);
+        }
+        self.gathered[node] = before;
+    }
+}
+
+/// The search that carries loads and delay along, from the last place to the first.
+struct PassSearch<'a, 'f> {
     net: Net<'a>,
     links: &'a Links,
     weights: &'a [u64],
@@ -371,7 +583,7 @@ struct Search<'a, 'f> {
     found: &'a mut Found<'f>,
 }
 
-impl Search<'_, '_> {
+impl PassSearch<'_, '_> {
     /// The load that a stage drives, from the loads of the places after it.
     fn driven_by_stage(&self, s: usize) -> u64 {
         let stages = self.net.stages.len();
@@ -405,9 +617,9 @@ impl Search<'_, '_> {
     }
 
     /// Takes every sizing that has the indices of x from `left` on.
-    fn places_before<const RUNS: bool>(&mut self, mut left: usize, mut added: u64) {
+    fn places_before(&mut self, mut left: usize, mut added: u64) {
         let stages = self.net.stages.len();
-        while RUNS && left > 0 && self.lower[left - 1] == self.upper[left - 1] {
+        while left > 0 && self.lower[left - 1] == self.upper[left - 1] {
             left -= 1;
             let (k, weight) = (self.lower[left], self.weights[left]);
             added += if left < stages {
@@ -428,7 +640,7 @@ impl Search<'_, '_> {
             let driven = self.driven_by_stage(p);
             for k in self.lower[p]..=self.upper[p] {
                 let step = self.put_size(p, k, weight, driven);
-                self.places_before::<RUNS>(p, added + step);
+                self.places_before(p, added + step);
             }
         } else {
             let i = p - stages;
@@ -437,7 +649,7 @@ impl Search<'_, '_> {
             let length = word(segment, 4);
             for k in self.lower[p]..=self.upper[p] {
                 let step = self.put_width(p, k, weight, length, driven);
-                self.places_before::<RUNS>(p, added + step);
+                self.places_before(p, added + step);
             }
         }
     }
@@ -537,12 +749,21 @@ fn size_by(job: &[u8], reply: &mut [u8], way: Way) -> usize {
     }
     let (mut lower, mut upper) = ([0; PLACES], [0; PLACES]);
     let (lower, upper) = (&mut lower[..places], &mut upper[..places]);
-    if way == Way::Fastest {
-        net.bound::<true>(&links, lower, Side::Below);
-        net.bound::<true>(&links, upper, Side::Above);
-    } else {
-        net.bound::<false>(&links, lower, Side::Below);
-        net.bound::<false>(&links, upper, Side::Above);
+    let mut sums = None;
+    match way {
+        Way::AsLibrary => {
+            let sums = sums.insert(Sums::new(&net, &links));
+            sums.bound(&net, lower, Side::Below);
+            sums.bound(&net, upper, Side::Above);
+        }
+        Way::WholeDelays => {
+            net.bound::<false>(&links, lower, Side::Below);
+            net.bound::<false>(&links, upper, Side::Above);
+        }
+        Way::Fastest => {
+            net.bound::<true>(&links, lower, Side::Below);
+            net.bound::<true>(&links, upper, Side::Above);
+        }
     }
     if !lower.iter().zip(upper.iter()).all(|(a, b)| a <= b) {
         return 13;
@@ -558,13 +779,30 @@ fn size_by(job: &[u8], reply: &mut [u8], way: Way) -> usize {
         lean,
         wide,
     };
-    if way == Way::WholeDelays {
+    if let Some(mut sums) = sums {
+        sums.hold(&net, lower, upper);
+        for p in 0..places {
+            sums.go_upstream(&net, lower, upper, p);
+        }
+        Search {
+            net,
+            sums: &sums,
+            lower,
+            upper,
+            x,
+            ups: [0; PLACES],
+            skips: [0; PLACES + 1],
+            gathered: [0; PLACES + 1],
+            found: &mut found,
+        }
+        .all();
+    } else if way == Way::WholeDelays {
         search_whole(&net, &links, lower, upper, x, &mut found);
     } else {
         let (mut weights, mut loads) = ([0; PLACES], [0; PLACES]);
         let (weights, loads) = (&mut weights[..places], &mut loads[..places]);
         net.weigh(&links, weights);
-        let mut search = Search {
+        PassSearch {
             net,
             links: &links,
             weights,
@@ -573,12 +811,8 @@ fn size_by(job: &[u8], reply: &mut [u8], way: Way) -> usize {
             x,
             loads,
             found: &mut found,
-        };
-        if way == Way::Fastest {
-            search.places_before::<true>(places, 0);
-        } else {
-            search.places_before::<false>(places, 0);
         }
+        .places_before(places, 0);
     }
     write_reply(reply, found.least, lower, upper, found.lean, found.wide);
     0
