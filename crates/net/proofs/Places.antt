@@ -3,7 +3,7 @@ use mathlib.Core.Path.{_≡_, refl, sym, ap, _∙_}
 use mathlib.Core.Bool.{Bool, true, false, cond}
 use mathlib.Core.List.{List}
 use Prim.Native.Nat.{ℕ, zero, suc, _+_, _*_, _-_, _≤_, _<_}
-use native.Mathlib.Nat.{add-zero, zero-add}
+use native.Mathlib.Nat.{add-zero}
 use native.Mathlib.Omega.{arith}
 use borrow.Author.Tests.{lt-ltb, le-ltb, eqb-true, eqb-false, ltb-true, ltb-false}
 use lib.Dec.{eqb, ltb}
@@ -13,25 +13,10 @@ use Rattle.lattice.specs.Lists.{at, sum}
 use Rattle.net.specs.Net.{Net, places}
 use Rattle.net.specs.Delay.{branchesTo, ownLoad, branchLoad, branchesLoad, loadUnder, stageLoad, stageDelay, stagesDelay, segmentDelay, delay, gatesLoad, loadFigure}
 use Rattle.net.specs.Segments.{totalWeight, ownDelay}
-use Rattle.net.specs.Places.{sumFrom, placeWeight, drivenLoad, delayAt, loadAt, placeDelay, placeLoad, delayFrom}
+use Rattle.net.specs.Places.{placeWeight, drivenLoad, delayAt, loadAt, placeDelay, placeLoad}
 use Rattle.net.proofs.Sum.{sum-same, sum-scale}
 use Rattle.net.proofs.Branches.{cond-same}
 use Rattle.net.proofs.Exchange.{delay-exchange}
-
--- sums from a place on
-sumFrom-same : (p d : ℕ) (f g : ℕ → ℕ) → ((q : ℕ) → p ≤ q → q < p + d → f q ≡ g q) → sumFrom p d f ≡ sumFrom p d g
-unfolding sumFrom
-sumFrom-same p zero f g e = refl
-sumFrom-same p (suc d) f g e = let h = sumFrom-same (suc p) d f g (λ q l m. e q (omega arith) (omega arith)) in let k = e p (omega arith) (omega arith) in omega arith
-
-sumFrom-sum : (p d : ℕ) (f : ℕ → ℕ) → sum p f + sumFrom p d f ≡ sum (p + d) f
-unfolding sumFrom sum
-sumFrom-sum p zero f = rw (add-zero p) (add-zero (sum p f))
-sumFrom-sum p (suc d) f =
-    let h = sumFrom-sum (suc p) d f in
-    let e : suc p + d ≡ p + suc d = omega arith in
-    let k : sum (suc p + d) f ≡ sum (p + suc d) f = ap (λ (n : ℕ). sum n f) e in
-    omega arith
 
 -- the terms from n on, each by its distance
 pub sum-split : (n m : ℕ) (f : ℕ → ℕ) → sum (n + m) f ≡ sum n f + sum m (λ i. f (n + i))
@@ -77,23 +62,6 @@ module _ (net : Net) (x : List ℕ) where
       let d = sum-same (net .segments) (λ i. placeDelay net x (net .stages + i)) (ownDelay net x) (λ i h. segment-place i) in
       let e = delay-exchange net falls x in
       omega arith
-
-  pub delayFrom-all : ((i : ℕ) → i < net .segments → net .parent i ≤ i) → delayFrom net x 0 ≡ delay net x
-  unfolding sum
-  delayFrom-all falls =
-      let z : places net - 0 ≡ places net = omega arith in
-      let h = sumFrom-sum 0 (places net) (placeDelay net x) in
-      let k : sum (0 + places net) (placeDelay net x) ≡ sum (places net) (placeDelay net x) = ap (λ (n : ℕ). sum n (placeDelay net x)) (zero-add (places net)) in
-      let e = places-delay falls in
-      rw z (omega arith)
-
-  pub delayFrom-none : (p : ℕ) → places net ≤ p → delayFrom net x p ≡ 0
-  unfolding sumFrom
-  delayFrom-none p h = let z : places net - p ≡ 0 = omega arith in rw z
-
-  pub delayFrom-step : (p : ℕ) → p < places net → delayFrom net x p ≡ placeDelay net x p + delayFrom net x (suc p)
-  unfolding sumFrom
-  delayFrom-step p h = let z : places net - p ≡ suc (places net - suc p) = omega arith in rw z
 
 -- What a place adds, and the load it shows, depend on the places from it on; the load that it drives on the places after it.
 module _ (net : Net) (falls : (i : ℕ) → i < net .segments → net .parent i ≤ i) (x y : List ℕ) where
@@ -142,15 +110,13 @@ module _ (net : Net) (falls : (i : ℕ) → i < net .segments → net .parent i 
   pub placeLoad-reads : (p : ℕ) → p < places net → Agree p → placeLoad net x p ≡ placeLoad net y p
   placeLoad-reads p h a = cc (a p (omega arith) h, driven-reads p h (λ q l m. a q (omega arith) m))
 
-  pub delayFrom-reads : (p : ℕ) → Agree p → delayFrom net x p ≡ delayFrom net y p
-  delayFrom-reads p a =
-      sumFrom-same p (places net - p) (placeDelay net x) (placeDelay net y)
-      (λ q l m. placeDelay-reads q (omega arith) (λ r k n. a r (omega arith) n))
-
 -- A delay and a load figure read the indices of the places and nothing behind them.
 module _ (net : Net) (falls : (i : ℕ) → i < net .segments → net .parent i ≤ i) where
   pub delay-reads : (x y : List ℕ) → ((p : ℕ) → p < places net → at x p ≡ at y p) → delay net x ≡ delay net y
-  delay-reads x y same = sym (delayFrom-all net x falls) ∙ delayFrom-reads net falls x y 0 (λ q l m. same q m) ∙ delayFrom-all net y falls
+  delay-reads x y same =
+      sym (places-delay net x falls)
+      ∙ sum-same (places net) _ _ (λ p h. placeDelay-reads net falls x y p h (λ q l m. same q m))
+      ∙ places-delay net y falls
 
   pub delay-take : (x : List ℕ) → delay net (take (places net) x) ≡ delay net x
   delay-take x = delay-reads (take (places net) x) x (λ p h. getD-take (places net) x p 0 h)

@@ -1,19 +1,13 @@
--- The scaled delay once more, place by place: what the search carries along and its contracts cite. `proofs/Places` shows that it adds up to
--- the delay of `specs/Delay`, so a reader need not believe this file.
+-- The scaled delay once more, place by place: what the contracts of the code that refines and searches cite. `proofs/Places` shows that it adds
+-- up to the delay of `specs/Delay`, so a reader need not believe this file.
 use mathlib.Core.Bool.{cond}
 use mathlib.Core.List.{List}
-use Prim.Native.Nat.{ℕ, zero, suc, _+_, _*_, _-_, _≤_, _<_}
-use mathlib.Core.Path.{_≡_}
+use Prim.Native.Nat.{ℕ, _+_, _*_, _-_}
 use lib.Dec.{ltb}
 use Rattle.lattice.specs.Lists.{at}
-use Rattle.net.specs.Net.{Net, places}
+use Rattle.net.specs.Net.{Net}
 use Rattle.net.specs.Delay.{loadUnder, stageLoad}
 use Rattle.net.specs.Segments.{weightBelow, totalWeight}
-
--- f p + f (p + 1) + .., d terms.
-unfoldable pub sumFrom : ℕ → ℕ → (ℕ → ℕ) → ℕ
-sumFrom p zero f = 0
-sumFrom p (suc d) f = f p + sumFrom (suc p) d f
 
 -- The weight of what place p adds: for a stage twice that of all sinks, for a segment that of the sinks at or below its far end.
 unfoldable pub placeWeight : Net → ℕ → ℕ
@@ -42,11 +36,3 @@ module _ (net : Net) (x : List ℕ) where
   -- The load that place p shows.
   abbrev pub placeLoad : ℕ → ℕ
   placeLoad p = loadAt net p (at x p) (drivenLoad p)
-
-  -- What the places from p on add to the scaled delay.
-  abbrev pub delayFrom : ℕ → ℕ
-  delayFrom p = sumFrom p (places net - p) placeDelay
-
-  -- `loads` has the loads of the places from p on.
-  pub record LoadsFrom (p : ℕ) (loads : List ℕ) : Type 0 where
-    pub held : (q : ℕ) → p ≤ q → q < places net → at loads q ≡ placeLoad q
