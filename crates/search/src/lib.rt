@@ -22,11 +22,11 @@ ghost use Rattle.search.specs.Searching.{arrives, UpsTo, SkipsTo, fixedF
 
 // The node at which a load at `node` arrives, through the held segments above it.
 fn arrival(
+    job: &[u8],
     counts: Counts,
     lower: &[u8],
     upper: &[u8],
     ups: &[usize; 68],
-    job: &[u8],
     node: usize,
 ) -> usize
     requires { ⌜ Checked counts (now job) ⌝ }
@@ -55,7 +55,7 @@ fn lift(job: &[u8], counts: Counts, lower: &[u8], upper: &[u8], ups: &mut [usize
     let mut p = 0;
     while p < places {
         let node = place::hangs_at(job, counts, p);
-        ups[p] = arrival(counts, lower, upper, ups, job, node);
+        ups[p] = arrival(job, counts, lower, upper, ups, node);
         p += 1;
     }
 }
