@@ -24,7 +24,7 @@ use Rattle.net.proofs.Places.{driven-reads}
 use Rattle.net.proofs.Dominance.{allowed-lattice, delay-submodular}
 use Rattle.place.specs.Held.{hangsAt, before, onward, DrivenFrom, UpstreamTo}
 use Rattle.place.proofs.Driving.{driven-all}
-use Rattle.place.proofs.Upstream.{upstream-start, upstream-step, upstream-reads}
+use Rattle.place.proofs.Upstream.{before-start, before-step, onward-reads, upstream-reads}
 use Rattle.bounds.specs.Sweep.{Swept}
 
 -- a step keeps the length
@@ -86,7 +86,7 @@ pub record Sweeping (net : Net) (s : Side) (x₀ : List ℕ) (p : ℕ) (x upstre
 module _ (net : Net) (o : Ordered net) (s : Side) (x₀ : List ℕ) where
   pub sweeping-start : (upstream : List ℕ) → places net ≤ length upstream → Approaching s (allowed net) (delay net) x₀ → Sweeping net s x₀ 0 x₀ upstream false
   sweeping-start upstream h a =
-      record { upTo = omega arith; swept = swept-start x₀ a; known = upstream-start net x₀ x₀ upstream h; later = λ q l m. refl }
+      record { upTo = omega arith; swept = swept-start x₀ a; known = before-start net _ upstream h; later = λ q l m. refl }
 
   module _ (p : ℕ) (few : p < places net) (x upstream : List ℕ) (changed : Bool) (i : Sweeping net s x₀ p x upstream changed) where
     -- the place drives what it drove when the sweep began
@@ -96,7 +96,7 @@ module _ (net : Net) (o : Ordered net) (s : Side) (x₀ : List ℕ) where
 
     module _ (v : ℕ) (e : v ≡ before (onward net x x upstream) (hangsAt net p)) where
       pub known-more : UpstreamTo net x x (suc p) (set upstream p v)
-      known-more = let z : p + 1 ≡ suc p = omega arith in rw z at (upstream-step net o x x upstream p v few (i .known) e)
+      known-more = let z : p + 1 ≡ suc p = omega arith in rw z at (before-step net o _ (onward-reads net x x) upstream p v few (i .known) e)
 
       pub sweeping-step : (y : List ℕ) → y ≡ refine s (allowed net) (delay net) x p
           → Sweeping net s x₀ (p + 1) y (set upstream p v) (changed || not (eqb (at y p) (at x p)))

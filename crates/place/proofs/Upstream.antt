@@ -17,7 +17,7 @@ use Rattle.net.specs.Net.{Net, places}
 use Rattle.net.specs.Sizings.{allowed}
 use Rattle.net.specs.Checked.{Ordered, Limited}
 use Rattle.net.proofs.Questions.{allowed-iff}
-use Rattle.place.specs.Held.{hangsAt, slope, before, onward, UpstreamTo}
+use Rattle.place.specs.Held.{hangsAt, slope, before, BeforeTo, onward, UpstreamTo}
 use Rattle.place.proofs.Weights.{placeWeight-small}
 use Rattle.place.proofs.Steps.{slope-small, slope-stage, slope-segment}
 use Rattle.place.proofs.Held.{before-same, hangs-falls}
@@ -70,28 +70,31 @@ module _ (net : Net) (o : Ordered net) (l : Limited net) (lower upper : List ℕ
       pub upstream-most : (q : ℕ) → q < p → q < places net → at upstream q ≤ q * 6528000000
       upstream-most q h m = most-to (suc q) q (omega arith) h m
 
--- one place more
-pub upstream-start : (net : Net) (lower upper upstream : List ℕ) → places net ≤ length upstream → UpstreamTo net lower upper 0 upstream
-upstream-start net lower upper upstream h = record { long = h; held = λ q l m. absurd (omega arith) }
+-- A table by the places before: one place more.
+pub before-start : (net : Net) (f : List ℕ → ℕ → ℕ) (table : List ℕ) → places net ≤ length table → BeforeTo net f 0 table
+before-start net f table h = record { long = h; held = λ q l m. absurd (omega arith) }
 
-pub upstream-step : (net : Net) → Ordered net → (lower upper upstream : List ℕ) (p v : ℕ) → p < places net → UpstreamTo net lower upper p upstream
-    → v ≡ before (onward net lower upper upstream) (hangsAt net p) → UpstreamTo net lower upper (p + 1) (set upstream p v)
-upstream-step net o lower upper upstream p v h u e =
+pub before-step : (net : Net) → Ordered net → (f : List ℕ → ℕ → ℕ) → ((t u : List ℕ) (a : ℕ) → at t a ≡ at u a → f t a ≡ f u a) → (table : List ℕ) (p v : ℕ) → p < places net
+    → BeforeTo net f p table → v ≡ before (f table) (hangsAt net p) → BeforeTo net f (p + 1) (set table p v)
+before-step net o f reads table p v h u e =
     record {
-      long = rw (length-set upstream p v) (u .long);
+      long = rw (length-set table p v) (u .long);
       held = λ q l m. here q m (eq-or-lt-of-le (le-of-suc-le-suc (omega arith)));
     }
   where
     -- what stands before q is as it was
-    same : (q : ℕ) → q < places net → q ≤ p → before (onward net lower upper upstream) (hangsAt net q) ≡ before (onward net lower upper (set upstream p v)) (hangsAt net q)
+    same : (q : ℕ) → q < places net → q ≤ p → before (f table) (hangsAt net q) ≡ before (f (set table p v)) (hangsAt net q)
     same q m n =
         before-same _ _ (hangsAt net q)
-        (λ a f. let g = hangs-falls net (o .parents) q m in
-        ap (λ (w : ℕ). cond (ltb (at lower a) (at upper a)) 0 (slope net a (at lower a) + cond (ltb a (net .stages)) 0 w)) (sym (getD-set-other upstream p a v 0 (λ k. omega arith))))
+        (λ a g. let k = hangs-falls net (o .parents) q m in reads table (set table p v) a (sym (getD-set-other table p a v 0 (λ d. omega arith))))
 
-    here : (q : ℕ) → q < places net → (q ≡ p) ⊎ (q < p) → at (set upstream p v) q ≡ before (onward net lower upper (set upstream p v)) (hangsAt net q)
-    here q m (inl f) = rw f (getD-set-same upstream p v 0 (omega (arith, u .long)) ∙ e ∙ same p h (omega arith))
-    here q m (inr f) = getD-set-other upstream p q v 0 (λ k. omega arith) ∙ u .held q f m ∙ same q m (omega arith)
+    here : (q : ℕ) → q < places net → (q ≡ p) ⊎ (q < p) → at (set table p v) q ≡ before (f (set table p v)) (hangsAt net q)
+    here q m (inl g) = rw g (getD-set-same table p v 0 (omega (arith, u .long)) ∙ e ∙ same p h (omega arith))
+    here q m (inr g) = getD-set-other table p q v 0 (λ k. omega arith) ∙ u .held q g m ∙ same q m (omega arith)
+
+-- the resistance onward from a place reads what is upstream of it
+pub onward-reads : (net : Net) (lower upper t u : List ℕ) (a : ℕ) → at t a ≡ at u a → onward net lower upper t a ≡ onward net lower upper u a
+onward-reads net lower upper t u a e = ap (λ (w : ℕ). cond (ltb (at lower a) (at upper a)) 0 (slope net a (at lower a) + cond (ltb a (net .stages)) 0 w)) e
 
 -- Where no place is free, what is upstream of a place reads the indices of the places before it.
 pub upstream-reads : (net : Net) → Ordered net → (x y upstream : List ℕ) (n : ℕ) → ((a : ℕ) → suc a < n → at x a ≡ at y a) → UpstreamTo net x x n upstream → UpstreamTo net y y n upstream

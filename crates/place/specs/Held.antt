@@ -1,5 +1,5 @@
--- What is known of a net before its free places are sized: the loads and the upstream resistances that the places with one index give. Cited by the contracts
--- of the code that refines and searches; `proofs/Held` shows what the delay is by them, so a reader need not believe this file.
+-- What is known of a net before its free places are sized: the loads and the upstream resistances that the places with one index give. Cited
+-- by the contracts of the code that refines and searches; `proofs/Held` shows what the delay is by them, so a reader need not believe this file.
 use mathlib.Core.Path.{_≡_}
 use mathlib.Core.Bool.{Bool, cond}
 use mathlib.Core.List.{List}
@@ -44,6 +44,11 @@ unfoldable pub before : (ℕ → ℕ) → ℕ → ℕ
 before f zero = 0
 before f (suc p) = f p
 
+-- `table` has, for the places before p, what f has for the place before each: f reads the table at that place.
+pub record BeforeTo (net : Net) (f : List ℕ → ℕ → ℕ) (p : ℕ) (table : List ℕ) : Type 0 where
+  pub long : places net ≤ length table
+  pub held : (q : ℕ) → q < p → q < places net → at table q ≡ before (f table) (hangsAt net q)
+
 -- Has place p more than one index between the bounds?
 abbrev pub free : List ℕ → List ℕ → ℕ → Bool
 free lower upper p = ltb (at lower p) (at upper p)
@@ -64,6 +69,5 @@ module _ (net : Net) (lower upper : List ℕ) where
   onward upstream a = cond (free lower upper a) 0 (slope net a (at lower a) + cond (ltb a (net .stages)) 0 (at upstream a))
 
   -- `upstream` has the weighted upstream resistances of the places before p: what the delay grows by with each unit of load that a place shows.
-  pub record UpstreamTo (p : ℕ) (upstream : List ℕ) : Type 0 where
-    pub long : places net ≤ length upstream
-    pub held : (q : ℕ) → q < p → q < places net → at upstream q ≡ before (onward upstream) (hangsAt net q)
+  abbrev pub UpstreamTo : ℕ → List ℕ → Type 0
+  UpstreamTo p upstream = BeforeTo net onward p upstream

@@ -9,7 +9,7 @@ use native.Mathlib.Numerals.{add-one}
 use native.Mathlib.Omega.{arith}
 use borrow.Author.Tests.{lt-ltb, le-ltb, ltb-false}
 use lib.Dec.{eqb, ltb}
-use lib.ListN.{length, set, length-set}
+use lib.ListN.{length, set}
 use lib.Seq.{getD-set-same, getD-set-other, set-getD}
 use Rattle.lattice.specs.Lists.{at, from, span}
 use Rattle.lattice.specs.Space.{Allowed}
@@ -21,13 +21,12 @@ use Rattle.net.specs.Places.{placeWeight, delayAt, placeDelay, placeLoad}
 use Rattle.net.specs.Sizings.{allowed}
 use Rattle.net.specs.Checked.{Ordered, Limited}
 use Rattle.net.proofs.Questions.{allowed-iff}
-use Rattle.place.specs.Held.{hangsAt, before, free, GatheredFrom, DrivenFrom}
+use Rattle.place.specs.Held.{before, free, GatheredFrom, DrivenFrom}
 use Rattle.place.proofs.After.{after-none, after-step, after-skip, after-small}
 use Rattle.place.proofs.Weights.{placeWeight-small}
 use Rattle.place.proofs.Steps.{weighted-small}
 use Rattle.place.proofs.Driving.{delay-most, driven-most}
-use Rattle.place.proofs.Held.{before-same, hangs-falls}
-use Rattle.search.specs.Searching.{arrives, UpsTo, SkipsTo, fixedFrom, freeLoad, pricedFrom}
+use Rattle.search.specs.Searching.{arrives, SkipsTo, fixedFrom, freeLoad, pricedFrom}
 
 module _ (net : Net) (lower upper : List ℕ) where
   -- where a load at a node arrives: at the node itself, but through a held segment
@@ -53,27 +52,9 @@ module _ (net : Net) (lower upper : List ℕ) where
       let l : net .stages ≤ a = omega (arith, n) in
       rw (e, le-ltb (at lower a) (at upper a) (rw e at h), le-ltb a (net .stages) l)
 
-  pub ups-start : (ups : List ℕ) → places net ≤ length ups → UpsTo net lower upper 0 ups
-  ups-start ups h = record { long = h; held = λ q l m. absurd (omega arith) }
-
-  -- one place more
-  pub ups-step : Ordered net → (ups : List ℕ) (p v : ℕ) → p < places net → UpsTo net lower upper p ups → v ≡ before (arrives net lower upper ups) (hangsAt net p)
-      → UpsTo net lower upper (p + 1) (set ups p v)
-  ups-step o ups p v h u e =
-      record {
-        long = rw (length-set ups p v) (u .long);
-        held = λ q l m. here q m (eq-or-lt-of-le (le-of-suc-le-suc (omega arith)));
-      }
-    where
-      same : (q : ℕ) → q < places net → q ≤ p → before (arrives net lower upper ups) (hangsAt net q) ≡ before (arrives net lower upper (set ups p v)) (hangsAt net q)
-      same q m n =
-          before-same _ _ (hangsAt net q)
-          (λ a f. let g = hangs-falls net (o .parents) q m in
-          ap (λ (w : ℕ). cond (free lower upper a) (suc a) (cond (ltb a (net .stages)) (suc a) w)) (sym (getD-set-other ups p a v 0 (λ k. omega arith))))
-
-      here : (q : ℕ) → q < places net → (q ≡ p) ⊎ (q < p) → at (set ups p v) q ≡ before (arrives net lower upper (set ups p v)) (hangsAt net q)
-      here q m (inl f) = rw f (getD-set-same ups p v 0 (omega (arith, u .long)) ∙ e ∙ same p h (omega arith))
-      here q m (inr f) = getD-set-other ups p q v 0 (λ k. omega arith) ∙ u .held q f m ∙ same q m (omega arith)
+  -- it reads the node at which the load of the place itself arrives
+  pub arrives-reads : (t u : List ℕ) (a : ℕ) → at t a ≡ at u a → arrives net lower upper t a ≡ arrives net lower upper u a
+  arrives-reads t u a e = ap (λ (w : ℕ). cond (free lower upper a) (suc a) (cond (ltb a (net .stages)) (suc a) w)) e
 
 module _ (lower upper : List ℕ) where
   -- how many places there are up to the last free one

@@ -15,7 +15,7 @@ use Rattle.net.specs.Sizings.{allowed}
 use Rattle.net.specs.Places.{placeWeight, delayAt, placeDelay, placeLoad}
 use Rattle.net.specs.Checked.{Checked}
 use Rattle.place.specs.Partial.{WeightsFrom}
-use Rattle.place.specs.Held.{hangsAt, before, sumAfter, free, GatheredFrom, DrivenFrom, UpstreamTo}
+use Rattle.place.specs.Held.{BeforeTo, sumAfter, free, GatheredFrom, DrivenFrom, UpstreamTo}
 
 -- `skips` has, for up to n places, how many of them there are up to the last that is free.
 pub record SkipsTo (lower upper : List ℕ) (n : ℕ) (skips : List ℕ) : Type 0 where
@@ -28,9 +28,8 @@ module _ (net : Net) (lower upper : List ℕ) where
   arrives ups a = cond (free lower upper a) (suc a) (cond (ltb a (net .stages)) (suc a) (at ups a))
 
   -- `ups` has, for the places before p, the node at which the load of a place arrives.
-  pub record UpsTo (p : ℕ) (ups : List ℕ) : Type 0 where
-    pub long : places net ≤ length ups
-    pub held : (q : ℕ) → q < p → q < places net → at ups q ≡ before (arrives ups) (hangsAt net q)
+  abbrev pub UpsTo : ℕ → List ℕ → Type 0
+  UpsTo p ups = BeforeTo net arrives p ups
 
   -- What the held places from p on add to the delay.
   abbrev pub fixedFrom : List ℕ → ℕ → ℕ

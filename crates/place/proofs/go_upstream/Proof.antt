@@ -1,5 +1,5 @@
 -- `place::go_upstream` meets its contract: the loop has the places passed.
-use Rattle.place.proofs.Upstream.{upstream-start, upstream-step}
+use Rattle.place.proofs.Upstream.{before-start, before-step, onward-reads}
 use Rattle.place.specs.Held.{UpstreamTo}
 use Rattle.net.proofs.Questions.{ordered}
 use Rattle.net.specs.Net.{netBy}
@@ -20,7 +20,7 @@ abbrev μ-loop : tie.MeasureT-loop
 μ-loop job counts weights lower upper upstream₀ n p₀ upstream p = n - p
 
 loop-holds : tie.Need-loop-holds Inv-loop μ-loop
-loop-holds c = let b = c .before .before .before in (upstream-start (netBy (b .args .counts) (b .args .job .now)) (b .args .lower .now) (b .args .upper .now) (b .args .upstream .now) (omega arith), omega arith)
+loop-holds c = let b = c .before .before .before in (before-start _ _ (b .args .upstream .now) (omega arith), omega arith)
 
 upstream-at-requires : tie.Need-upstream-at-requires Inv-loop μ-loop
 upstream-at-requires c κs =
@@ -44,7 +44,7 @@ loop-again : tie.Need-loop-again Inv-loop μ-loop
 loop-again c =
     let b = c .before .before .before .before .before .before .before in
     let l = c .before .before .before .loop in
-    (upstream-step (netBy (b .args .counts) (b .args .job .now)) (ordered (b .pre .0)) (b .args .lower .now) (b .args .upper .now) (l .upstream) (l .p) _ (omega arith) (l .inv .0) (c .upstream-at .ensures), omega arith)
+    (before-step (netBy (b .args .counts) (b .args .job .now)) (ordered (b .pre .0)) _ (onward-reads (netBy (b .args .counts) (b .args .job .now)) (b .args .lower .now) (b .args .upper .now)) (l .upstream) (l .p) _ (omega arith) (l .inv .0) (c .upstream-at .ensures), omega arith)
 
 returns : tie.Need-returns Inv-loop μ-loop
 returns c =

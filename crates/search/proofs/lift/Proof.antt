@@ -1,5 +1,6 @@
 -- `search::lift` meets its contract: the loop has the places passed.
-use Rattle.search.proofs.Tables.{ups-start, ups-step}
+use Rattle.place.proofs.Upstream.{before-start, before-step}
+use Rattle.search.proofs.Tables.{arrives-reads}
 use Rattle.search.specs.Searching.{UpsTo}
 use Rattle.place.specs.Held.{before}
 use Rattle.net.proofs.Questions.{ordered}
@@ -27,7 +28,7 @@ add-places c = search needs
 loop-holds : tie.Need-loop-holds Inv-loop μ-loop
 loop-holds c =
     let b = c .before .before .before .before in
-    (ups-start (netBy (b .args .counts) (b .args .job .now)) (b .args .lower .now) (b .args .upper .now) (b .args .ups .now) (b .pre .1 .1), omega arith)
+    (before-start _ _ (b .args .ups .now) (b .pre .1 .1), omega arith)
 
 hangs-at-requires : tie.Need-hangs-at-requires Inv-loop μ-loop
 hangs-at-requires c κs =
@@ -64,7 +65,7 @@ loop-again : tie.Need-loop-again Inv-loop μ-loop
 loop-again c =
     let b = c .before .before .before .before .before .before .before .before .before in
     let l = c .before .before .before .before .loop in
-    (ups-step (netBy (b .args .counts) (b .args .job .now)) (b .args .lower .now) (b .args .upper .now) (ordered (b .pre .0)) (l .ups) (l .p) _ (omega (arith, c .before .before .before .loop-test .taken)) (l .inv .0) (c .arrival .ensures ∙ ap (before _) (c .before .before .hangs-at .ensures .0)), omega (arith, c .before .before .before .loop-test .taken))
+    (before-step (netBy (b .args .counts) (b .args .job .now)) (ordered (b .pre .0)) _ (arrives-reads (netBy (b .args .counts) (b .args .job .now)) (b .args .lower .now) (b .args .upper .now)) (l .ups) (l .p) _ (omega (arith, c .before .before .before .loop-test .taken)) (l .inv .0) (c .arrival .ensures ∙ ap (before _) (c .before .before .hangs-at .ensures .0)), omega (arith, c .before .before .before .loop-test .taken))
 
 returns : tie.Need-returns Inv-loop μ-loop
 returns c =
