@@ -29,6 +29,35 @@ none-tally {net} {x} j e r n =
       delay = n .delay ∙ sym (siblings-none net (ownDelay net x) j e);
     }
 
+-- r is counted up over the siblings from j on that stand before i: with those from i on it is all of them.
+pub record Passed (net : Net) (x : List ℕ) (j i : ℕ) (r : Part) : Type 0 where
+  pub from : j ≤ i
+  pub within : i ≤ net .segments
+  pub weight : r .weight + siblings net (net .weight) i ≡ siblings net (net .weight) j
+  pub load : r .load .0 + siblings net (ownLoad net x) i ≡ siblings net (ownLoad net x) j
+  pub delay : r .delay .0 + siblings net (ownDelay net x) i ≡ siblings net (ownDelay net x) j
+
+-- at first none is passed
+pub passed-none : {net : Net} {x : List ℕ} (j : ℕ) → j ≤ net .segments → (r : Part) → Empty r → Passed net x j j r
+passed-none {net} {x} j h r n =
+    record {
+      from = omega arith;
+      within = h;
+      weight = omega (arith, n .weight);
+      load = omega (arith, n .load);
+      delay = omega (arith, n .delay);
+    }
+
+-- past the last segment all are passed
+pub passed-all : {net : Net} {x : List ℕ} (j i : ℕ) → net .segments ≤ i → (r : Part) → Passed net x j i r → Tally net x siblings j r
+passed-all {net} {x} j i h r p =
+    let e : i ≡ net .segments = omega (arith, p .within) in
+    record {
+      weight = omega (arith, p .weight, siblings-none net (net .weight) i e);
+      load = omega (arith, p .load, siblings-none net (ownLoad net x) i e);
+      delay = omega (arith, p .delay, siblings-none net (ownDelay net x) i e);
+    }
+
 module _ {c : Counts} {job x : List ℕ} (ready : Ready c job x) where
   abbrev net : Net
   net = netBy c job
@@ -86,31 +115,28 @@ module _ {c : Counts} {job x : List ℕ} (ready : Ready c job x) where
           delay = b .delay ∙ rw (weight-is, lag-is, t .delay);
         }
 
-  module _ (j i : ℕ) (h : j < net .segments) (f : First net (net .parent j) (suc j) i) (b d : Part) (t : Tally net x branch j b) (v : Tally net x siblings i d) where
+  -- one more sibling: i joins what is passed, and k is the next
+  module _ (j i k : ℕ) (h : i < net .segments) (f : First net (net .parent i) (suc i) k) (b d : Part) (p : Passed net x j i b) (t : Tally net x branch i d) where
+    m : j < net .segments
+    m = omega (arith, p .from)
+
     pub joined-room : RoomJoined b d
     joined-room =
         record {
-          weight = omega (arith, siblings-step net (o .parents) (net .weight) j i h f, siblings-bounded 255 (l .weights) j h);
-          load = omega (arith, siblings-step net (o .parents) (ownLoad net x) j i h f, siblings-bounded _ (ownLoad-small net o l x a) j h);
-          delay = omega (arith, siblings-step net (o .parents) (ownDelay net x) j i h f, siblings-bounded _ (ownDelay-small net o l x a) j h);
+          weight = omega (arith, p .weight, t .weight, siblings-step net (o .parents) (net .weight) i k h f, siblings-bounded 255 (l .weights) j m);
+          load = omega (arith, p .load, t .load, siblings-step net (o .parents) (ownLoad net x) i k h f, siblings-bounded _ (ownLoad-small net o l x a) j m);
+          delay = omega (arith, p .delay, t .delay, siblings-step net (o .parents) (ownDelay net x) i k h f, siblings-bounded _ (ownDelay-small net o l x a) j m);
         }
 
-    pub joined-tally : (r : Part) → Joined b d r → Tally net x siblings j r
-    joined-tally r e =
+    pub joined-passed : (r : Part) → Joined b d r → Passed net x j k r
+    joined-passed r e =
         record {
-          weight = omega (arith, siblings-step net (o .parents) (net .weight) j i h f);
-          load = omega (arith, siblings-step net (o .parents) (ownLoad net x) j i h f);
-          delay = omega (arith, siblings-step net (o .parents) (ownDelay net x) j i h f);
+          from = omega (arith, p .from, f .from);
+          within = f .within;
+          weight = omega (arith, p .weight, t .weight, e .weight, siblings-step net (o .parents) (net .weight) i k h f);
+          load = omega (arith, p .load, t .load, e .load, siblings-step net (o .parents) (ownLoad net x) i k h f);
+          delay = omega (arith, p .delay, t .delay, e .delay, siblings-step net (o .parents) (ownDelay net x) i k h f);
         }
-
-  -- the last of its siblings is all of them from it on
-  pub last-tally : (j i : ℕ) → j < net .segments → First net (net .parent j) (suc j) i → i ≡ net .segments → (b : Part) → Tally net x branch j b → Tally net x siblings j b
-  last-tally j i h f e b t =
-      record {
-        weight = omega (arith, t .weight, siblings-step net (o .parents) (net .weight) j i h f, siblings-none net (net .weight) i e);
-        load = omega (arith, t .load, siblings-step net (o .parents) (ownLoad net x) j i h f, siblings-none net (ownLoad net x) i e);
-        delay = omega (arith, t .delay, siblings-step net (o .parents) (ownDelay net x) j i h f, siblings-none net (ownDelay net x) i e);
-      }
 
   -- the whole tree, behind stages that contribute d
   module _ (tree : Part) (t : Tally net x branches 0 tree) (d : ℕ) (e : d ≡ stagesDelay net x) where

@@ -132,16 +132,13 @@ fn branches(
     requires { ⌜ j ≤ counts .segments ⌝ }
     ensures { λ r. ⌜ Tally (netBy counts (now (job .entry))) (now (sizing .entry)) siblings j r ⌝ }
 {
-    if j == counts.segments {
-        return nothing();
+    let mut sum = nothing();
+    let mut i = j;
+    while i < counts.segments {
+        sum = joined(sum, branch(job, counts, first, next, sizing, i));
+        i = next[i];
     }
-    let head = branch(job, counts, first, next, sizing, j);
-    let sibling = next[j];
-    if sibling == counts.segments {
-        return head;
-    }
-    let rest = branches(job, counts, first, next, sizing, sibling);
-    joined(head, rest)
+    sum
 }
 
 // The whole tree: the branches at the source.

@@ -1,11 +1,12 @@
 -- `elmore::branch` and `elmore::branches` meet their contracts: each step is a lemma of `Tallies`, and a child and a sibling have larger numbers,
--- so that fewer segments are left.
+-- so that each call and each turn of the loop has fewer segments left.
 use Prim.Native.Nat.{ℕ, _+_, _*_, _-_, _<_}
 use native.Mathlib.Omega.{arith}
 use borrow.Author.Needs.{needs}
+use Rattle.net.specs.Net.{netBy}
 use Rattle.net.proofs.Questions.{ordered}
 use Rattle.links.proofs.Siblings.{first-behind}
-use Rattle.elmore.proofs.Tallies.{behind-room, behind-tally, joined-room, joined-tally, last-tally, none-tally}
+use Rattle.elmore.proofs.Tallies.{behind-room, behind-tally, none-tally, Passed, passed-none, passed-all, joined-room, joined-passed}
 use borrow.Fn.Kinds.{In}
 use borrow.Fn.PlainCycle.{Measures, is, falls, and}
 use Rattle.elmore.proofs.branch.Reads as branch
@@ -45,7 +46,7 @@ abbrev branch-claims : ℕ → branch-lts.Claims
 branch-claims t = (sized-reads.Asked, sized-reads.Learnt, nothing-reads.Asked, nothing-reads.Learnt, behind-reads.Asked, behind-reads.Learnt, branches-below t, branches.Post)
 
 abbrev branches-claims : ℕ → branches-lts.Claims
-branches-claims t = (nothing-reads.Asked, nothing-reads.Learnt, branch-below t, branch.Post, branches-below t, branches.Post, joined-reads.Asked, joined-reads.Learnt)
+branches-claims t = (nothing-reads.Asked, nothing-reads.Learnt, branch-below t, branch.Post, joined-reads.Asked, joined-reads.Learnt)
 
 branch-sized-requires : (t : ℕ) → branch-lts.Need-sized-requires (branch-claims t) (branch-at t) branch.Post
 branch-sized-requires t c κs = search needs
@@ -103,57 +104,66 @@ branch-returns-2 t c =
     behind-tally r (a .i) _ (b .pre .1 .1 .1) (b .pre .1 .1 .0 .firsts (a .i + 1) (omega arith))
     _ _ (c .before .before .before .before .before .sized .ensures) (c .before .branches .ensures) _ (c .behind2 .ensures)
 
-branches-nothing-requires : (t : ℕ) → branches-lts.Need-nothing-requires (branches-claims t) (branches-at t) branches.Post
+-- what is counted up over the siblings passed
+abbrev branches-Inv-loop : branches-lts.InvT-loop
+branches-Inv-loop job counts first next sizing j sum₀ i₀ sum i = Passed (netBy counts job) sizing j i sum
+
+abbrev branches-μ-loop : branches-lts.MeasureT-loop
+branches-μ-loop job counts first next sizing j sum₀ i₀ sum i = counts .segments - i
+
+branches-nothing-requires : (t : ℕ) → branches-lts.Need-nothing-requires (branches-claims t) (branches-at t) branches.Post branches-Inv-loop branches-μ-loop
 branches-nothing-requires t c κs = search needs
 
-branches-returns : (t : ℕ) → branches-lts.Need-returns (branches-claims t) (branches-at t) branches.Post
-branches-returns t c = let b = c .before .before .before .before .before .before .before in none-tally (b .args .j) (omega arith) _ (c .nothing .ensures)
+branches-loop-holds : (t : ℕ) → branches-lts.Need-loop-holds (branches-claims t) (branches-at t) branches.Post branches-Inv-loop branches-μ-loop
+branches-loop-holds t c =
+    let b = c .before .before .before .before .before in
+    passed-none (b .args .j) (b .pre .1 .1 .1) _ (c .nothing .ensures)
 
-branches-branch-requires : (t : ℕ) → branches-lts.Need-branch-requires (branches-claims t) (branches-at t) branches.Post
+branches-branch-requires : (t : ℕ) → branches-lts.Need-branch-requires (branches-claims t) (branches-at t) branches.Post branches-Inv-loop branches-μ-loop
 branches-branch-requires t c κs =
-    let b = c .before .before .before .before .before .before in
-    (omega arith, (b .pre .1 .0, (b .pre .1 .1 .0, omega arith)))
+    let b = c .before .before .before .before .before .before .before .before in
+    (omega (arith, c .before .before .loop .inv .from, b .pre .0), (b .pre .1 .0, (b .pre .1 .1 .0, omega arith)))
 
-branches-mul-sibling : (t : ℕ) → branches-lts.Need-mul-sibling (branches-claims t) (branches-at t) branches.Post
-branches-mul-sibling t c = search needs
-
-branches-shared-slice-read-sibling : (t : ℕ) → branches-lts.Need-shared-slice-read-sibling (branches-claims t) (branches-at t) branches.Post
-branches-shared-slice-read-sibling t c = search needs
-
--- where it has no sibling after it
-branches-returns-2 : (t : ℕ) → branches-lts.Need-returns-2 (branches-claims t) (branches-at t) branches.Post
-branches-returns-2 t c =
-    let b = c .before .before .before .before .before .before .before .before .before .before in
-    let a = b .args in
-    let r = b .pre .1 .0 in
-    let l : a .j < a .counts .segments = omega arith in
-    last-tally r (a .j) _ l (b .pre .1 .1 .0 .nexts (a .j) l) (omega arith) _ (c .before .before .before .branch .ensures)
-
-branches-branches-requires : (t : ℕ) → branches-lts.Need-branches-requires (branches-claims t) (branches-at t) branches.Post
-branches-branches-requires t c κs =
-    let b = c .before .before .before .before .before .before .before .before .before .before in
-    let a = b .args in
-    let r = b .pre .1 .0 in
-    let f = b .pre .1 .1 .0 .nexts (a .j) (omega arith) in
-    (omega arith, (r, (b .pre .1 .1 .0, f .within)))
-
-branches-joined-requires : (t : ℕ) → branches-lts.Need-joined-requires (branches-claims t) (branches-at t) branches.Post
+branches-joined-requires : (t : ℕ) → branches-lts.Need-joined-requires (branches-claims t) (branches-at t) branches.Post branches-Inv-loop branches-μ-loop
 branches-joined-requires t c κs =
-    let b = c .before .before .before .before .before .before .before .before .before .before .before in
-    let a = b .args in
-    let r = b .pre .1 .0 in
-    let l : a .j < a .counts .segments = omega arith in
-    joined-room r (a .j) _ l (b .pre .1 .1 .0 .nexts (a .j) l)
-    _ _ (c .before .before .before .before .branch .ensures) (c .branches .ensures)
+    let b = c .before .before .before .before .before .before .before .before .before in
+    let p = c .before .before .before .loop in
+    let h : p .i < b .args .counts .segments = omega arith in
+    joined-room (b .pre .1 .0) (b .args .j) (p .i) _ h (b .pre .1 .1 .0 .nexts (p .i) h) _ _ (p .inv) (c .branch .ensures)
 
-branches-returns-3 : (t : ℕ) → branches-lts.Need-returns-3 (branches-claims t) (branches-at t) branches.Post
-branches-returns-3 t c =
-    let b = c .before .before .before .before .before .before .before .before .before .before .before .before in
-    let a = b .args in
-    let r = b .pre .1 .0 in
-    let l : a .j < a .counts .segments = omega arith in
-    joined-tally r (a .j) _ l (b .pre .1 .1 .0 .nexts (a .j) l)
-    _ _ (c .before .before .before .before .before .branch .ensures) (c .before .branches .ensures) _ (c .joined .ensures)
+branches-mul-i : (t : ℕ) → branches-lts.Need-mul-i (branches-claims t) (branches-at t) branches.Post branches-Inv-loop branches-μ-loop
+branches-mul-i t c =
+    let b = c .before .before .before .before .before .before .before .before .before .before in
+    let p = c .before .before .before .before .loop in
+    let h : p .i < b .args .counts .segments = omega arith in
+    omega (arith, h, b .pre .1 .0 .checked .fewSegments)
+
+branches-shared-slice-read-i : (t : ℕ) → branches-lts.Need-shared-slice-read-i (branches-claims t) (branches-at t) branches.Post branches-Inv-loop branches-μ-loop
+branches-shared-slice-read-i t c =
+    let b = c .before .before .before .before .before .before .before .before .before .before .before in
+    let p = c .before .before .before .before .before .loop in
+    let h : p .i < b .args .counts .segments = omega arith in
+    omega (arith, h, b .pre .1 .1 .0 .segments)
+
+branches-loop-less : (t : ℕ) → branches-lts.Need-loop-less (branches-claims t) (branches-at t) branches.Post branches-Inv-loop branches-μ-loop
+branches-loop-less t c =
+    let b = c .before .before .before .before .before .before .before .before .before .before .before in
+    let p = c .before .before .before .before .before .loop in
+    let h : p .i < b .args .counts .segments = omega arith in
+    omega (arith, h, b .pre .1 .1 .0 .nexts (p .i) h .from)
+
+branches-loop-again : (t : ℕ) → branches-lts.Need-loop-again (branches-claims t) (branches-at t) branches.Post branches-Inv-loop branches-μ-loop
+branches-loop-again t c =
+    let b = c .before .before .before .before .before .before .before .before .before .before .before in
+    let p = c .before .before .before .before .before .loop in
+    let h : p .i < b .args .counts .segments = omega arith in
+    joined-passed (b .pre .1 .0) (b .args .j) (p .i) _ h (b .pre .1 .1 .0 .nexts (p .i) h) _ _ (p .inv) (c .before .before .branch .ensures) _ (c .before .joined .ensures)
+
+branches-returns : (t : ℕ) → branches-lts.Need-returns (branches-claims t) (branches-at t) branches.Post branches-Inv-loop branches-μ-loop
+branches-returns t c =
+    let b = c .before .before .before .before .before .before .before .before in
+    let p = c .before .before .loop in
+    passed-all (b .args .j) (p .i) (omega arith) _ (p .inv)
 
 pub +branch+branches-spec : {M : Type 1} → statement M
 +branch+branches-spec = close μ-branch μ-branches (λ t. branch-lts.spec (branch-claims t)
@@ -172,12 +182,14 @@ pub +branch+branches-spec : {M : Type 1} → statement M
     λ t. branches-lts.spec (branches-claims t)
     (branches-at t)
     branches.Post
+    branches-Inv-loop
+    branches-μ-loop
     (branches-nothing-requires t)
-    (branches-returns t)
+    (branches-loop-holds t)
     (branches-branch-requires t)
-    (branches-mul-sibling t)
-    (branches-shared-slice-read-sibling t)
-    (branches-returns-2 t)
-    (branches-branches-requires t)
     (branches-joined-requires t)
-    (branches-returns-3 t)
+    (branches-mul-i t)
+    (branches-shared-slice-read-i t)
+    (branches-loop-less t)
+    (branches-loop-again t)
+    (branches-returns t)
