@@ -22,7 +22,7 @@ pub struct Outcome {
 pub fn counts(job: &[u8]) -> Counts
     ensures { λ r. ⌜ r ≡ countsOf (now (job .entry)) ⌝ }
 {
-    runs::count(job, job.len() / 16)
+    runs::count_any(job, job.len() / 16)
 }
 
 // Question 1: is the length above 0 and a multiple of 16?
@@ -74,11 +74,14 @@ fn question5(job: &[u8], counts: Counts) -> bool
     let places = counts.widths + counts.sizes;
     let wires = places + counts.stages;
     let before = runs::bytes_zero(job, 0, counts.widths, 2, 2);
-    let behind = runs::bytes_zero(job, 0, counts.widths, 12, 4);
+    let behind = runs::words_within(job, 0, counts.widths, 12, 0, 0);
     let sizes = runs::bytes_zero(job, counts.widths, counts.sizes, 2, 2);
-    let stages = runs::bytes_zero(job, places, counts.stages, 4, 12);
+    let second = runs::words_within(job, places, counts.stages, 4, 0, 0);
+    let third = runs::words_within(job, places, counts.stages, 8, 0, 0);
+    let fourth = runs::words_within(job, places, counts.stages, 12, 0, 0);
     let segments = runs::bytes_zero(job, wires, counts.segments, 15, 1);
     let sinks = runs::sinks_or_none(job, wires, counts.segments);
+    let stages = second & (third & fourth);
     (before & behind) & (sizes & (stages & (segments & sinks)))
 }
 

@@ -7,6 +7,7 @@ ghost use Prim.Native.Nat.{_+_, _*_, _<_, _≤_};
 ghost use lib.Dec.{eqb};
 ghost use lib.ListN.{length};
 ghost use Rattle.lattice.specs.Lists.{every};
+ghost use Rattle.questions.specs.Kinds.{Kinds, UpTo, Ends};
 ghost use Rattle.questions.specs.Records.{byteOf, wordOf, kindInOrder, numberInOrder, zeroFrom, zeroBytes, byteWithin, wordWithin, wordBelow, rangeWithin, parentInOrder, sinkOrNone, sinkOrBranch, countsTo};
 
 // The byte at `at` of the record k after `start`.
@@ -216,8 +217,8 @@ fn one_if(kind: usize, of: usize) -> usize
     (kind == of) as usize
 }
 
-// How many of the first n records are of each kind.
-pub fn count(job: &[u8], n: usize) -> Counts
+// How many of the first n records are of each kind, in whatever order they stand.
+pub fn count_any(job: &[u8], n: usize) -> Counts
     requires { ⌜ 16 * n ≤ length (now job) ⌝ }
     ensures { λ r. ⌜ r ≡ countsTo (now (job .entry)) n ⌝ }
 {
@@ -237,5 +238,39 @@ pub fn count(job: &[u8], n: usize) -> Counts
         sizes: sizes,
         stages: stages,
         segments: segments,
+    }
+}
+
+// The first of n records whose kind is above `kind`, or n. The records before `from` are known to be of kinds up to it.
+fn end_of(job: &[u8], n: usize, from: usize, kind: usize) -> usize
+    requires { ⌜ 16 * n ≤ length (now job) ⌝ }
+    requires { ⌜ Kinds (now job) n ⌝ }
+    requires { ⌜ UpTo (now job) n kind from ⌝ }
+    ensures { λ r. ⌜ Ends (now (job .entry)) n kind r ⌝ }
+{
+    let mut k = from;
+    while k < n {
+        if kind < job::index_at(job, 16 * k) {
+            return k;
+        }
+        k += 1;
+    }
+    n
+}
+
+// How many of the first n records are of each kind, where their kinds are 1 to 4 and never fall: each kind is one run of records.
+pub fn count(job: &[u8], n: usize) -> Counts
+    requires { ⌜ 16 * n ≤ length (now job) ⌝ }
+    requires { ⌜ Kinds (now job) n ⌝ }
+    ensures { λ r. ⌜ r ≡ countsTo (now (job .entry)) n ⌝ }
+{
+    let widths = end_of(job, n, 0, 1);
+    let sizes = end_of(job, n, widths, 2);
+    let stages = end_of(job, n, sizes, 3);
+    Counts {
+        widths: widths,
+        sizes: sizes - widths,
+        stages: stages - sizes,
+        segments: n - stages,
     }
 }

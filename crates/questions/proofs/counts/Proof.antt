@@ -4,12 +4,12 @@ use borrow.Author.Needs.{needs}
 use Rattle.questions.proofs.counts.Statement.{statement}
 use Rattle.questions.proofs.counts.Tie as tie
 
-count-requires : tie.Need-count-requires
-count-requires c κs = search needs
+count-any-requires : tie.Need-count-any-requires
+count-any-requires c κs = search needs
 
 returns : tie.Need-returns
 unfolding countsOf
-returns c = c .count .ensures
+returns c = c .count-any .ensures
 
 pub counts-spec : {M : Type 1} → statement M
-counts-spec = tie.close (tie.spec count-requires returns)
+counts-spec = tie.close (tie.spec count-any-requires returns)

@@ -13,17 +13,23 @@ add-wires c = search needs
 bytes-zero-requires : tie.Need-bytes-zero-requires
 bytes-zero-requires c κs = search needs
 
+words-within-requires : tie.Need-words-within-requires
+words-within-requires c κs = search needs
+
 bytes-zero-requires-2 : tie.Need-bytes-zero-requires-2
 bytes-zero-requires-2 c κs = search needs
 
+words-within-requires-2 : tie.Need-words-within-requires-2
+words-within-requires-2 c κs = search needs
+
+words-within-requires-3 : tie.Need-words-within-requires-3
+words-within-requires-3 c κs = search needs
+
+words-within-requires-4 : tie.Need-words-within-requires-4
+words-within-requires-4 c κs = search needs
+
 bytes-zero-requires-3 : tie.Need-bytes-zero-requires-3
 bytes-zero-requires-3 c κs = search needs
-
-bytes-zero-requires-4 : tie.Need-bytes-zero-requires-4
-bytes-zero-requires-4 c κs = search needs
-
-bytes-zero-requires-5 : tie.Need-bytes-zero-requires-5
-bytes-zero-requires-5 c κs = search needs
 
 sinks-or-none-requires : tie.Need-sinks-or-none-requires
 sinks-or-none-requires c κs = search needs
@@ -31,11 +37,13 @@ sinks-or-none-requires c κs = search needs
 returns : tie.Need-returns
 returns c =
     question5-by _ _
-    (c .before .before .before .before .before .bytes-zero .ensures)
-    (c .before .before .before .before .bytes-zero2 .ensures)
-    (c .before .before .before .bytes-zero3 .ensures)
-    (c .before .before .bytes-zero4 .ensures)
-    (c .before .bytes-zero5 .ensures)
+    (c .before .before .before .before .before .before .before .bytes-zero .ensures)
+    (c .before .before .before .before .before .before .words-within .ensures)
+    (c .before .before .before .before .before .bytes-zero2 .ensures)
+    (c .before .before .before .before .words-within2 .ensures)
+    (c .before .before .before .words-within3 .ensures)
+    (c .before .before .words-within4 .ensures)
+    (c .before .bytes-zero3 .ensures)
     (c .sinks-or-none .ensures)
 
 pub question5-spec : {M : Type 1} → statement M
@@ -45,9 +53,11 @@ question5-spec =
     add-places
     add-wires
     bytes-zero-requires
+    words-within-requires
     bytes-zero-requires-2
+    words-within-requires-2
+    words-within-requires-3
+    words-within-requires-4
     bytes-zero-requires-3
-    bytes-zero-requires-4
-    bytes-zero-requires-5
     sinks-or-none-requires
     returns)

@@ -1,6 +1,8 @@
 -- `questions::questions_from_1` meets its contract: the first no decides, and where there is none the job can be linked.
 use mathlib.Core.Path.{refl}
 use borrow.Author.Needs.{needs}
+use native.Mathlib.Omega.{arith}
+use Rattle.questions.proofs.Ends.{kinds-known}
 use Rattle.questions.proofs.Numbers.{some-record, counted-held, refused-1, refused-2, asked-from-3}
 use Rattle.questions.proofs.questions_from_1.Statement.{statement}
 use Rattle.questions.proofs.questions_from_1.Tie as tie
@@ -24,7 +26,7 @@ returns-2 : tie.Need-returns-2
 returns-2 c = refused-2 _ (c .before .before .before .before .question1 .ensures) (c .before .before .before .if1 .left) (c .before .before .question2 .ensures) _ (c .uncounted2 .ensures) (c .before .if2 .taken)
 
 count-requires : tie.Need-count-requires
-count-requires c κs = search needs
+count-requires c κs = (omega arith, kinds-known _ (c .before .question2 .ensures) (c .if2 .left))
 
 questions-from-3-requires : tie.Need-questions-from-3-requires
 questions-from-3-requires c κs = counted-held _ (c .count .ensures)

@@ -1,0 +1,74 @@
+-- A word is 0 exactly where its four bytes are, so zero bytes can be tested a word at a time.
+use mathlib.Core.Path.{_≡_, _∙_, refl, ap, ap₂}
+use mathlib.Core.Bool.{Bool, true, false, _&&_, and-true}
+use mathlib.Core.List.{List}
+use Prim.Native.Nat.{ℕ, zero, suc, _+_, _*_, _≤_, _<_}
+use native.Mathlib.Nat.{add-zero, add-suc}
+use native.Mathlib.Omega.{arith}
+use lib.Dec.{T, leb, eqb, le→leb, eqb→eq, lit<}
+use Rattle.lattice.specs.Lists.{every}
+use Rattle.lattice.proofs.Every.{every-same}
+use Rattle.lattice.proofs.ListLaws.{T-and, eq-T, every-at}
+use Rattle.net.specs.Job.{byte, word}
+use Rattle.net.specs.Questions.{inRange}
+use Rattle.net.proofs.Questions.{in-range}
+use Rattle.questions.specs.Records.{zeroBytes, wordWithin}
+
+-- two tests that give each other are one
+same-test : (a b : Bool) → (T a → T b) → (T b → T a) → a ≡ b
+same-test true true p q = refl
+same-test true false p q = absurd (p tt)
+same-test false true p q = absurd (q tt)
+same-test false false p q = refl
+
+swap : (p q r : Bool) → p && (q && r) ≡ q && (p && r)
+swap true q r = refl
+swap false true r = refl
+swap false false r = refl
+
+-- a test at the first n places, and at the m behind them
+every-join : (n m : ℕ) (f : ℕ → Bool) → every n f && every m (λ i. f (n + i)) ≡ every (n + m) f
+unfolding every
+every-join n zero f = rw (add-zero n) (and-true (every n f))
+every-join n (suc m) f = rw (add-suc n m) (swap (every n f) (f (n + m)) _ ∙ ap (λ t. f (n + m) && t) (every-join n m f))
+
+module _ (b : List ℕ) where
+  -- Is the byte i behind p zero?
+  abbrev zeroAt : ℕ → ℕ → Bool
+  zeroAt p i = eqb (byte b (p + i)) 0
+
+  bytes-of-zero : (p : ℕ) → T (inRange 0 0 (word b p)) → T (every 4 (zeroAt p))
+  unfolding every
+  bytes-of-zero p t =
+      let w : word b p ≤ 0 = in-range 0 0 (word b p) t .1 in
+      T-and (zeroAt p 3) _ (eq-T (byte b (p + 3)) 0 (omega arith))
+      (T-and (zeroAt p 2) _ (eq-T (byte b (p + 2)) 0 (omega arith))
+      (T-and (zeroAt p 1) _ (eq-T (byte b (p + 1)) 0 (omega arith)) (T-and (zeroAt p 0) true (eq-T (byte b (p + 0)) 0 (rw (add-zero p) (omega arith))) tt)))
+
+  zero-of-bytes : (p : ℕ) → T (every 4 (zeroAt p)) → T (inRange 0 0 (word b p))
+  zero-of-bytes p t =
+      let zero-at : (i : ℕ) → i < 4 → byte b (p + i) ≡ 0 = λ i h. eqb→eq _ _ (every-at 4 (zeroAt p) t i h) in
+      let first : byte b p ≡ 0 = rw (add-zero p) at (zero-at 0 (lit< tt)) in
+      T-and (leb 0 (word b p)) (leb (word b p) 0) (le→leb 0 (word b p) (omega arith))
+      (le→leb (word b p) 0 (omega (arith, first, zero-at 1 (lit< tt), zero-at 2 (lit< tt), zero-at 3 (lit< tt))))
+
+  word-zero : (p : ℕ) → inRange 0 0 (word b p) ≡ every 4 (zeroAt p)
+  word-zero p = same-test _ _ (bytes-of-zero p) (zero-of-bytes p)
+
+  -- four bytes, and n behind them
+  zeros-join : (p q n : ℕ) → p + 4 ≡ q → every 4 (zeroAt p) && every n (zeroAt q) ≡ every (4 + n) (zeroAt p)
+  zeros-join p q n e =
+      ap (λ t. every 4 (zeroAt p) && t) (every-same n (zeroAt q) (λ i. zeroAt p (4 + i)) (λ i h. let f : q + i ≡ p + (4 + i) = omega arith in rw f))
+      ∙ every-join 4 n (zeroAt p)
+
+  -- three words, one behind the other
+  words-zero : (p q r : ℕ) → p + 4 ≡ q → q + 4 ≡ r
+      → inRange 0 0 (word b p) && (inRange 0 0 (word b q) && inRange 0 0 (word b r)) ≡ every 12 (zeroAt p)
+  words-zero p q r e f = ap₂ _&&_ (word-zero p) (ap₂ _&&_ (word-zero q) (word-zero r) ∙ zeros-join q r 4 f) ∙ zeros-join p q 8 e
+
+  -- The word at `at` of a record, and its last three words.
+  pub zero-word : (start at k : ℕ) → wordWithin b start at 0 0 k ≡ zeroBytes b start at 4 k
+  zero-word start at k = word-zero (16 * (start + k) + at)
+
+  pub zero-words : (start k : ℕ) → wordWithin b start 4 0 0 k && (wordWithin b start 8 0 0 k && wordWithin b start 12 0 0 k) ≡ zeroBytes b start 4 12 k
+  zero-words start k = let p : ℕ = 16 * (start + k) in words-zero (p + 4) (p + 8) (p + 12) (omega arith) (omega arith)
