@@ -226,36 +226,42 @@ module _ (net : Net) (parents : (i : ℕ) → i < net .segments → net .parent 
       let e : l q ≡ loadAt net q (k q) (sinkAt net q + behind net less q + behind net more q) = a ∙ ap (loadAt net q (k q)) d in
       omega arith
 
-  abbrev pass : ℕ → Bool
+  -- a held segment is the one that passes on what hangs behind it
+  abbrev pub pass : ℕ → Bool
   pass q = cond (free q) false (not (ltb q (net .stages)))
+
+  -- what s charges behind the places is the price of what the free ones show
+  pub charged : (s price : ℕ → ℕ) → ((q : ℕ) → q < places net → price q * more q ≡ before (λ a. s a + cond (pass a) (price a) 0) (hangsAt net q) * more q)
+      → sum (places net) (λ a. s a * behind net more a) ≡ sum (places net) (λ q. cond (free q) (price q * more q) 0)
+  unfolding behind
+  charged s price priced =
+      carried (places net) (hangsAt net) (hangs-falls net parents) pass s price more priced (λ q h t. passes q h (free q) refl (ltb q (net .stages)) refl t)
+      ∙ sum-same (places net) _ _ (λ q h. shown q h (free q) refl (ltb q (net .stages)) refl)
+    where
+      passes : (q : ℕ) → q < places net → (b : Bool) → free q ≡ b → (t : Bool) → ltb q (net .stages) ≡ t → cond b false (not t) ≡ true → more q ≡ gather (places net) (hangsAt net) (hangs-falls net parents) more q
+      passes q h true f t e g = absurd (false≢true g)
+      passes q h false f true e g = absurd (false≢true g)
+      passes q h false f false e g = more-held q h f ∙ rw e
+
+      shown : (q : ℕ) → q < places net → (b : Bool) → free q ≡ b → (t : Bool) → ltb q (net .stages) ≡ t
+          → cond (cond b false (not t)) 0 (price q * more q) ≡ cond b (price q * more q) 0
+      shown q h true f t e = refl
+      shown q h false f false e = refl
+      shown q h false f true e = let z : more q ≡ 0 = more-held q h f ∙ rw e in rw z (omega arith)
 
   module _ (price : ℕ → ℕ)
       (priced : (q : ℕ) → q < places net
       → price q * more q ≡ before (λ a. cond (free a) 0 (slope net a (k a) + cond (ltb a (net .stages)) 0 (price a))) (hangsAt net q) * more q) where
-    -- what the held places are charged is the price of what the free ones show
+    -- the held places are charged by their slopes
     owed : sum (places net) (λ a. cond (free a) 0 (slope net a (k a)) * behind net more a) ≡ sum (places net) (λ q. cond (free q) (price q * more q) 0)
-    unfolding behind
     owed =
-        carried (places net) (hangsAt net) (hangs-falls net parents) pass (λ a. cond (free a) 0 (slope net a (k a))) price more
+        charged (λ a. cond (free a) 0 (slope net a (k a))) price
         (λ q h. priced q h ∙ ap (λ (v : ℕ). v * more q) (before-same _ _ (hangsAt net q) (λ p e. charge (free p) (ltb p (net .stages)) (slope net p (k p)) (price p))))
-        (λ q h t. passes q h (free q) refl (ltb q (net .stages)) refl t)
-        ∙ sum-same (places net) _ _ (λ q h. shown q h (free q) refl (ltb q (net .stages)) refl)
       where
         charge : (b t : Bool) (u v : ℕ) → cond b 0 (u + cond t 0 v) ≡ cond b 0 u + cond (cond b false (not t)) v 0
         charge true t u v = refl
         charge false true u v = refl
         charge false false u v = refl
-
-        passes : (q : ℕ) → q < places net → (b : Bool) → free q ≡ b → (t : Bool) → ltb q (net .stages) ≡ t → cond b false (not t) ≡ true → more q ≡ gather (places net) (hangsAt net) (hangs-falls net parents) more q
-        passes q h true f t e g = absurd (false≢true g)
-        passes q h false f true e g = absurd (false≢true g)
-        passes q h false f false e g = more-held q h f ∙ rw e
-
-        shown : (q : ℕ) → q < places net → (b : Bool) → free q ≡ b → (t : Bool) → ltb q (net .stages) ≡ t
-            → cond (cond b false (not t)) 0 (price q * more q) ≡ cond b (price q * more q) 0
-        shown q h true f t e = refl
-        shown q h false f false e = refl
-        shown q h false f true e = let z : more q ≡ 0 = more-held q h f ∙ rw e in rw z (omega arith)
 
     -- the delay, where y has the indices k at the held places: what `less` gives at those, and what the free places add
     pub apart : (y : ℕ → ℕ) → ((q : ℕ) → q < places net → free q ≡ false → y q ≡ k q)

@@ -1,7 +1,7 @@
 -- A sizing that has the held places' only index: its delay is what these add once for all, and what the free places add with what their loads
 -- cost upstream; and a free place drives what it drives without the others, and the loads of the free places that arrive behind it.
 use mathlib.Core.Path.{_≡_, refl, sym, ap, _∙_}
-use mathlib.Core.Bool.{Bool, true, false, cond, not, true≢false, false≢true}
+use mathlib.Core.Bool.{Bool, true, false, cond, not, true≢false}
 use mathlib.Core.List.{List}
 use Prim.Native.Nat.{ℕ, zero, suc, _+_, _*_, _≤_, _<_}
 use native.Mathlib.Omega.{arith}
@@ -15,8 +15,8 @@ use Rattle.net.specs.Checked.{Ordered}
 use Rattle.net.proofs.Sum.{sum-same, sum-only}
 use Rattle.net.proofs.Places.{places-delay}
 use Rattle.place.specs.Held.{hangsAt, behind, sinkAt, before, sumAfter, free, heldLoad, DrivenFrom, UpstreamTo}
-use Rattle.place.proofs.Behind.{eqb-iff, gather, carried}
-use Rattle.place.proofs.Held.{hangs-falls, driven-behind, more, behind-more, more-held, apart}
+use Rattle.place.proofs.Behind.{eqb-iff}
+use Rattle.place.proofs.Held.{hangs-falls, driven-behind, more, behind-more, charged, apart}
 use Rattle.search.specs.Searching.{arrives, UpsTo, fixedFrom, freeLoad, pricedFrom}
 
 -- a load arrives at no node behind its place
@@ -54,9 +54,6 @@ module _ (net : Net) (o : Ordered net) (lower upper driven upstream ups : List �
   extra-free : (q : ℕ) → free lower upper q ≡ true → extra q ≡ placeLoad net y q
   extra-free q t = rw t (omega arith)
 
-  extra-held : (q : ℕ) → q < places net → free lower upper q ≡ false → extra q ≡ cond (ltb q (net .stages)) 0 (behind net extra q)
-  extra-held = more-held net (o .parents) (free lower upper) (at lower) (placeLoad net y) (heldLoad net lower upper driven) loaded lessLoaded smaller
-
   -- the delay, apart
   pub delay-apart : delay net y ≡ fixedFrom net lower upper driven 0 + pricedFrom net lower upper upstream y 0
   unfolding sumAfter
@@ -84,10 +81,11 @@ module _ (net : Net) (o : Ordered net) (lower upper driven upstream ups : List �
     abbrev arrived : ℕ → ℕ
     arrived q = cond (eqb (at ups q) (suc p)) 1 0
 
-    abbrev pass : ℕ → Bool
-    pass q = cond (free lower upper q) false (not (ltb q (net .stages)))
+    -- through held segments alone
+    abbrev through-held : ℕ → ℕ
+    through-held a = cond (eqb p a) 1 0 + cond (cond (free lower upper a) false (not (ltb a (net .stages)))) (arrived a) 0
 
-    arrives-by : (q : ℕ) → q < places net → arrived q ≡ before (λ a. cond (eqb p a) 1 0 + cond (pass a) (arrived a) 0) (hangsAt net q)
+    arrives-by : (q : ℕ) → q < places net → arrived q ≡ before through-held (hangsAt net q)
     unfolding before
     arrives-by q h = rw (n .held q h h) (go (hangsAt net q))
       where
@@ -98,34 +96,24 @@ module _ (net : Net) (o : Ordered net) (lower upper driven upstream ups : List �
         through a false e false f =
             rw (ne-eqb p a (λ g. true≢false (sym frees ∙ ap (free lower upper) g ∙ e))) (omega arith)
 
-        go : (r : ℕ) → cond (eqb (before (arrives net lower upper ups) r) (suc p)) 1 0 ≡ before (λ a. cond (eqb p a) 1 0 + cond (pass a) (arrived a) 0) r
+        go : (r : ℕ) → cond (eqb (before (arrives net lower upper ups) r) (suc p)) 1 0 ≡ before through-held r
         go zero = rw (ne-eqb 0 (suc p) (λ e. omega arith))
         go (suc a) = through a (free lower upper a) refl (ltb a (net .stages)) refl
 
     arrives-all : behind net extra p ≡ sum (places net) (λ q. cond (eqb (at ups q) (suc p)) (freeLoad net lower upper y q) 0)
-    unfolding behind
     arrives-all =
         let a = sum-only (places net) p 1 (behind net extra) few in
-        let b = carried (places net) (hangsAt net) (hangs-falls net (o .parents)) pass (λ a. cond (eqb p a) 1 0) arrived extra
-        (λ q h. ap (λ (v : ℕ). v * extra q) (arrives-by q h)) (λ q h t. passes q h (free lower upper q) refl (ltb q (net .stages)) refl t) in
-        let c = sum-same (places net) (λ q. cond (pass q) 0 (arrived q * extra q)) (λ q. cond (eqb (at ups q) (suc p)) (freeLoad net lower upper y q) 0)
-        (λ q h. shown q h (free lower upper q) refl (ltb q (net .stages)) refl (eqb (at ups q) (suc p))) in
+        let b = charged net (o .parents) (free lower upper) (at lower) (placeLoad net y) (heldLoad net lower upper driven) loaded lessLoaded smaller
+        (λ a. cond (eqb p a) 1 0) arrived (λ q h. ap (λ (v : ℕ). v * extra q) (arrives-by q h)) in
+        let c = sum-same (places net) (λ q. cond (free lower upper q) (arrived q * extra q) 0) (λ q. cond (eqb (at ups q) (suc p)) (freeLoad net lower upper y q) 0)
+        (λ q h. shown q (free lower upper q) refl (eqb (at ups q) (suc p))) in
         omega arith
       where
-        passes : (q : ℕ) → q < places net → (b : Bool) → free lower upper q ≡ b → (t : Bool) → ltb q (net .stages) ≡ t → cond b false (not t) ≡ true
-            → extra q ≡ gather (places net) (hangsAt net) (hangs-falls net (o .parents)) extra q
-        passes q h true f t e g = absurd (false≢true g)
-        passes q h false f true e g = absurd (false≢true g)
-        passes q h false f false e g = extra-held q h f ∙ rw e
-
-        shown : (q : ℕ) → q < places net → (b : Bool) → free lower upper q ≡ b → (t : Bool) → ltb q (net .stages) ≡ t → (w : Bool)
-            → cond (cond b false (not t)) 0 (cond w 1 0 * extra q) ≡ cond w (cond b (placeLoad net y q) 0) 0
-        shown q h true f t e true = rw (extra-free q f) (omega arith)
-        shown q h true f t e false = omega arith
-        shown q h false f false e true = refl
-        shown q h false f false e false = refl
-        shown q h false f true e true = let z : extra q ≡ 0 = extra-held q h f ∙ rw e in rw z (omega arith)
-        shown q h false f true e false = omega arith
+        shown : (q : ℕ) (b : Bool) → free lower upper q ≡ b → (w : Bool) → cond b (cond w 1 0 * extra q) 0 ≡ cond w (cond b (placeLoad net y q) 0) 0
+        shown q true f true = rw (extra-free q f) (omega arith)
+        shown q true f false = omega arith
+        shown q false f true = refl
+        shown q false f false = refl
 
     pub driven-apart : drivenLoad net y p ≡ at driven p + sum (places net) (λ q. cond (eqb (at ups q) (suc p)) (freeLoad net lower upper y q) 0)
     driven-apart =

@@ -8,10 +8,9 @@ use native.Mathlib.Numerals.{add-one}
 use native.Mathlib.Omega.{arith}
 use lib.ListN.{length, set}
 use Rattle.lattice.specs.Lists.{at}
-use Rattle.lattice.specs.Space.{Allowed}
 use Rattle.lattice.specs.Search.{Found, take}
 use Rattle.net.specs.declared.Counts.{Counts}
-use Rattle.net.specs.Net.{Net, places, netBy}
+use Rattle.net.specs.Net.{places, netBy}
 use Rattle.net.specs.Delay.{delay}
 use Rattle.net.specs.Sizings.{allowed}
 use Rattle.net.specs.Places.{placeWeight, delayAt, loadAt, drivenLoad, placeLoad}
@@ -28,9 +27,6 @@ use Rattle.search.specs.Searching.{freeLoad, Prepared, Sized, Searched}
 use Rattle.search.proofs.Apart.{ups-fall}
 use Rattle.search.proofs.Tables.{skip-le, skip-free}
 use Rattle.search.proofs.Turns.{Turning, load-is, turning-start, highs, reached-fits, complete, turn-ready, turn-done, taken-done, passed-done, turning-end}
-
-pub allowed-long : (net : Net) (x : List ℕ) → Allowed (allowed net) x → length x ≡ places net
-allowed-long net x a = allowed-iff net x .0 a .long
 
 module _ {c : Counts} {job weights upstream driven ups skips lower upper : List ℕ} (r : Prepared c job weights upstream driven ups skips lower upper)
     {left added : ℕ} {x gathered lean wide : List ℕ} (s : Sized (netBy c job) lower upper upstream driven ups left added x gathered lean wide) (least : ℕ)
