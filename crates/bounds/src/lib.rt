@@ -1,7 +1,7 @@
 // The lower and the upper bound of a net, found by refining at each place until no index changes, and the room between them.
+use lattice::Side;
 use net::Counts;
 use quantity::Capacitance;
-use refine::Side;
 ghost use mathlib.Core.Path.{_≡_};
 ghost use Prim.Native.Nat.{suc, _+_, _-_, _<_, _≤_};
 ghost use lib.Dec.{leb};
@@ -13,7 +13,7 @@ ghost use Rattle.net.specs.Delay.{delay};
 ghost use Rattle.net.specs.Sizings.{allowed};
 ghost use Rattle.net.specs.Checked.{Checked};
 ghost use Rattle.place.specs.Partial.{WeightsFrom};
-ghost use Rattle.refine.specs.Sides.{sideOf};
+ghost use Rattle.lattice.specs.SideOf.{sideOf};
 ghost use Rattle.bounds.specs.Sweep.{firstAt, Swept};
 ghost use Rattle.bounds.specs.Between.{Between};
 

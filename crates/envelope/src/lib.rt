@@ -1,12 +1,12 @@
 // What a search keeps: the least delay so far, and the envelope from below and from above of the sizings that have it.
+use lattice::Side;
 use quantity::Delay;
-use refine::Side;
 ghost use mathlib.Core.Path.{_≡_};
 ghost use lib.ListN.{length};
 ghost use Rattle.lattice.specs.Side.{extreme};
 ghost use Rattle.lattice.specs.Space.{merge as merged};
 ghost use Rattle.lattice.specs.Search.{take as taken};
-ghost use Rattle.refine.specs.Sides.{sideOf};
+ghost use Rattle.lattice.specs.SideOf.{sideOf};
 ghost use Rattle.envelope.specs.Kept.{found};
 
 // The one of two indices that comes first, seen from the side.

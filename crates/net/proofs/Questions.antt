@@ -271,6 +271,9 @@ allowed-iff net x =
       λ y. T-and (inBox (places net) (net .lowest) (net .highest) x) true (i .1 y) tt,
     )
 
+pub allowed-long : (net : Net) (x : List ℕ) → Allowed (allowed net) x → length x ≡ places net
+allowed-long net x a = allowed-iff net x .0 a .long
+
 pub allowed-ranges : (net : Net) (x : List ℕ) → Allowed (allowed net) x → InRanges net x
 allowed-ranges net x t = let y = allowed-iff net x .0 t in record { long = omega (arith, y .long); low = y .low; high = y .high }
 

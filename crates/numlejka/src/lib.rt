@@ -1,12 +1,12 @@
 // The C interface: each operation returns its number and answers through the parameters that the caller lends.
+use lattice::Side;
 use operations::Measurement;
 use operations::Preference;
 use operations::Refinement;
-use refine::Side;
 ghost use mathlib.Core.Path.{_≡_};
 ghost use lib.ListN.{length};
 ghost use Rattle.net.specs.Answers.{measured, refined, sizeNumber, sizeBuffer};
-ghost use Rattle.refine.specs.Sides.{sideOf};
+ghost use Rattle.lattice.specs.SideOf.{sideOf};
 ghost use Rattle.numlejka.specs.Results.{answered, sideBy, chosenSlice};
 
 // The scaled delay and the load figure of a sizing, written where the number is 0.

@@ -1,20 +1,21 @@
 // measure, refine and choose: three of the four operations, total on every input.
 use elmore::DelayAndLoad;
+use lattice::Side;
 use net::Counts;
-use refine::Side;
+use quantity::Capacitance;
 ghost use mathlib.Core.Path.{_≡_};
 ghost use mathlib.Core.Bool.{true, false};
 ghost use Prim.Native.Nat.{_+_, _<_};
 ghost use lib.ListN.{length};
+ghost use Rattle.lattice.specs.SideOf.{sideOf};
 ghost use Rattle.lattice.specs.Space.{Allowed};
-ghost use Rattle.lattice.specs.Refine.{best};
+ghost use Rattle.lattice.specs.Refine.{best, refine as refinedAt};
 ghost use Rattle.net.specs.Net.{netBy};
 ghost use Rattle.net.specs.Delay.{delay as delayOf};
 ghost use Rattle.net.specs.Sizings.{allowed as allowedOf};
 ghost use Rattle.net.specs.Checked.{Checked};
 ghost use Rattle.net.specs.Answers.{measured, refined, chosen};
 ghost use Rattle.links.specs.Links.{Linked};
-ghost use Rattle.refine.specs.Sides.{sideOf};
 ghost use Rattle.operations.specs.Outcomes.{measuredBy, refinedBy, measureRefused, refineRefused, Preferred, fromSecond};
 
 // What measure answers: the figures of the sizing, or the number of the first question that fails.
@@ -55,6 +56,40 @@ pub fn measure(job: &[u8], sizing: &[u8]) -> Measurement
     Measurement::Figures(elmore::figures(job, counts, &first, &next, sizing))
 }
 
+// Puts the best index at a place of an allowed sizing.
+fn refine_at(
+    job: &[u8],
+    counts: Counts,
+    first: &[usize],
+    next: &[usize],
+    x: &mut [u8],
+    place: usize,
+    side: Side,
+)
+    requires { ⌜ Checked counts (now job) ⌝ }
+    requires { ⌜ Linked (netBy counts (now job)) (now first) (now next) ⌝ }
+    requires { ⌜ Allowed (allowedOf (netBy counts (now job))) (now x) ⌝ }
+    requires { ⌜ place < counts .stages + counts .segments ⌝ }
+    ensures { λ r. ⌜ now (x .exit) ≡ refinedAt (sideOf side) (allowedOf (netBy counts (now (job .entry)))) (delayOf (netBy counts (now (job .entry)))) (now (x .entry)) place ⌝ }
+{
+    let mut weights = [0u64; 68];
+    weights::weigh(job, counts, first, next, &mut weights);
+    let mut driven = [0u64; 68];
+    place::drive(job, counts, x, x, &mut driven);
+    let mut upstream = [0u64; 68];
+    place::go_upstream(job, counts, &weights, x, x, &mut upstream, place + 1);
+    refine::settle(
+        job,
+        counts,
+        &weights,
+        &upstream,
+        Capacitance(driven[place]),
+        x,
+        place,
+        side,
+    );
+}
+
 // The best index at a place of an allowed sizing, which is copied into x.
 fn best_index(
     job: &[u8],
@@ -74,7 +109,7 @@ fn best_index(
     ensures { λ r. ⌜ r ≡ best (sideOf side) (allowedOf (netBy counts (now (job .entry)))) (delayOf (netBy counts (now (job .entry)))) (now (sizing .entry)) place ⌝ }
 {
     bytes::copy(sizing, x);
-    refine::refine_at(job, counts, first, next, x, place, side);
+    refine_at(job, counts, first, next, x, place, side);
     x[place]
 }
 

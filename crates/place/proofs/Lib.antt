@@ -1,4 +1,3 @@
-pub mod LinkedSums
 pub mod Steps
 pub mod Weights
 pub mod Behind

@@ -15,7 +15,7 @@ use Rattle.lattice.proofs.ListLaws.{eq-T, at-some}
 use Rattle.net.specs.declared.Counts.{Counts}
 use Rattle.net.specs.Net.{Net, netBy}
 use Rattle.net.specs.Questions.{question11}
-use Rattle.questions.specs.Records.{sinkOrBranch}
+use Rattle.runs.specs.Records.{sinkOrBranch}
 use Rattle.questions.specs.Check.{Firsts}
 use Rattle.lattice.proofs.Every.{every-same}
 

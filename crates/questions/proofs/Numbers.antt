@@ -17,7 +17,7 @@ use Rattle.net.specs.Checked.{Held}
 use Rattle.net.proofs.Questions.{in-range, counts-held, checked}
 use Rattle.links.specs.Links.{Parents, Linked}
 use Rattle.questions.specs.declared.Outcome.{Outcome}
-use Rattle.questions.specs.Records.{countsTo}
+use Rattle.runs.specs.Records.{countsTo}
 use Rattle.questions.specs.Check.{CheckOf, Linkable, Asked, questionsFrom7, questionsFrom3, Counted}
 
 -- r is the answer to the question q, the first of those that are left: yes, and a later one decides; or no

@@ -12,7 +12,7 @@ use Rattle.lattice.specs.Lists.{every}
 use Rattle.net.specs.declared.Counts.{Counts}
 use Rattle.net.specs.Job.{byte, records, segmentAt}
 use Rattle.net.specs.Questions.{inRange, question2, question4, zeros, sinkOrZero, question5, question6, question7, question8, question9, question10}
-use Rattle.questions.specs.Records.{byteOf, kindInOrder, numberInOrder, zeroBytes, byteWithin, wordWithin, wordBelow, rangeWithin, parentInOrder, sinkOrNone}
+use Rattle.runs.specs.Records.{byteOf, kindInOrder, numberInOrder, zeroBytes, byteWithin, wordWithin, wordBelow, rangeWithin, parentInOrder, sinkOrNone}
 use Rattle.questions.proofs.Zeros.{zero-word, zero-words}
 use Rattle.lattice.proofs.Every.{every-and, every-same}
 

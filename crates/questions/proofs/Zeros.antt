@@ -12,7 +12,7 @@ use Rattle.lattice.proofs.ListLaws.{T-and, eq-T, every-at}
 use Rattle.net.specs.Job.{byte, word}
 use Rattle.net.specs.Questions.{inRange}
 use Rattle.net.proofs.Questions.{in-range}
-use Rattle.questions.specs.Records.{zeroBytes, wordWithin}
+use Rattle.runs.specs.Records.{zeroBytes, wordWithin}
 
 -- two tests that give each other are one
 same-test : (a b : Bool) → (T a → T b) → (T b → T a) → a ≡ b

@@ -1,7 +1,5 @@
 // Questions 1 to 11, asked of a job of any length, in time linear in it. Within a question all tests are asked, by `&`: a proof then has one way
 // through it.
-mod runs;
-
 use net::Counts;
 ghost use mathlib.Core.Path.{_≡_};
 ghost use Prim.Native.Nat.{_<_, _≤_};

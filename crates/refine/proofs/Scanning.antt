@@ -19,23 +19,21 @@ use Rattle.net.specs.Sizings.{allowed}
 use Rattle.net.specs.Places.{delayAt, loadAt, drivenLoad}
 use Rattle.net.specs.Checked.{Ordered, Limited}
 use Rattle.net.proofs.Dominance.{allowed-lattice}
-use Rattle.net.proofs.Questions.{allowed-iff}
+use Rattle.net.proofs.Questions.{allowed-iff, allowed-long}
 use Rattle.place.specs.Partial.{WeightsFrom}
 use Rattle.place.specs.Held.{UpstreamTo}
 use Rattle.place.proofs.Weights.{placeWeight-small}
 use Rattle.place.proofs.Upstream.{upstream-most}
 use Rattle.place.proofs.Driving.{driven-small}
 use Rattle.place.proofs.OnePlace.{traded}
-use Rattle.refine.specs.declared.Side.{Side}
-use Rattle.refine.specs.declared.Side.the-variants.{Below, Above}
-use Rattle.refine.specs.Sides.{sideOf, winsOver}
+use Rattle.lattice.specs.declared.Side.{Side}
+use Rattle.lattice.specs.declared.Side.the-variants.{Below, Above}
+use Rattle.lattice.specs.SideOf.{sideOf}
+use Rattle.refine.specs.Wins.{winsOver}
 
 -- an index in its range keeps a sizing allowed
 pub allowed-set : (net : Net) (x : List ℕ) (p k : ℕ) → Allowed (allowed net) x → net .lowest p ≤ k → k ≤ net .highest p → Allowed (allowed net) (set x p k)
 allowed-set net x p k a l h = allowed-iff net (set x p k) .1 (boxed-set (places net) _ _ x p k (allowed-iff net x .0 a) l h)
-
-pub allowed-long : (net : Net) (x : List ℕ) → Allowed (allowed net) x → length x ≡ places net
-allowed-long net x a = allowed-iff net x .0 a .long
 
 -- What the index j costs at the place p, which drives the load d.
 abbrev pub cost : Net → List ℕ → List ℕ → ℕ → ℕ → ℕ → ℕ

@@ -1,10 +1,12 @@
 // The best index at one place, the rest of the sizing held.
+use lattice::Side;
 use net::Counts;
 use quantity::Capacitance;
 use quantity::Delay;
 use quantity::Resistance;
 ghost use mathlib.Core.Path.{_≡_};
 ghost use Prim.Native.Nat.{suc, _+_, _<_};
+ghost use Rattle.lattice.specs.SideOf.{sideOf};
 ghost use Rattle.lattice.specs.Space.{Allowed};
 ghost use Rattle.lattice.specs.Refine.{refine as refinedAt};
 ghost use Rattle.net.specs.Net.{netBy};
@@ -12,16 +14,9 @@ ghost use Rattle.net.specs.Delay.{delay as delayOf};
 ghost use Rattle.net.specs.Places.{drivenLoad};
 ghost use Rattle.net.specs.Sizings.{allowed};
 ghost use Rattle.net.specs.Checked.{Checked};
-ghost use Rattle.links.specs.Links.{Linked};
 ghost use Rattle.place.specs.Partial.{WeightsFrom};
 ghost use Rattle.place.specs.Held.{UpstreamTo};
-ghost use Rattle.refine.specs.Sides.{sideOf, winsOver};
-
-// The end of a tie that is answered: from below the smallest best index, from above the largest.
-pub enum Side {
-    Below,
-    Above,
-}
+ghost use Rattle.refine.specs.Wins.{winsOver};
 
 // Does a larger index of delay d take the place of the best so far, of delay least?
 fn wins(side: Side, d: Delay, least: Delay) -> bool
@@ -68,38 +63,4 @@ pub fn settle(
         }
     }
     x[place] = best;
-}
-
-// Puts the best index at a place of an allowed sizing.
-pub fn refine_at(
-    job: &[u8],
-    counts: Counts,
-    first: &[usize],
-    next: &[usize],
-    x: &mut [u8],
-    place: usize,
-    side: Side,
-)
-    requires { ⌜ Checked counts (now job) ⌝ }
-    requires { ⌜ Linked (netBy counts (now job)) (now first) (now next) ⌝ }
-    requires { ⌜ Allowed (allowed (netBy counts (now job))) (now x) ⌝ }
-    requires { ⌜ place < counts .stages + counts .segments ⌝ }
-    ensures { λ r. ⌜ now (x .exit) ≡ refinedAt (sideOf side) (allowed (netBy counts (now (job .entry)))) (delayOf (netBy counts (now (job .entry)))) (now (x .entry)) place ⌝ }
-{
-    let mut weights = [0u64; 68];
-    place::weigh(job, counts, first, next, &mut weights);
-    let mut driven = [0u64; 68];
-    place::drive(job, counts, x, x, &mut driven);
-    let mut upstream = [0u64; 68];
-    place::go_upstream(job, counts, &weights, x, x, &mut upstream, place + 1);
-    settle(
-        job,
-        counts,
-        &weights,
-        &upstream,
-        Capacitance(driven[place]),
-        x,
-        place,
-        side,
-    );
 }

@@ -15,12 +15,13 @@ use Rattle.net.specs.Net.{Net, places, netBy, netOf}
 use Rattle.net.specs.Sizings.{lowerBound, upperBound, room}
 use Rattle.net.specs.Checked.{Checked}
 use Rattle.net.specs.Questions.{Question, ask, firstNo, jobQuestions, refusal}
-use Rattle.net.specs.Answers.{replyLength, sizeNumber, finishedReply, boundsReply, replyRecords, littleEndian, sizeBuffer}
+use Rattle.net.specs.Answers.{replyLength, sizeNumber, boundsReply, replyRecords, sizeBuffer}
 use Rattle.net.specs.Promises.{Promises}
 use Rattle.net.proofs.Promises.{promises}
 use Rattle.net.proofs.Answers.{firstNo-yes, firstNo-no, job-passes, job-fails}
-use Rattle.size.specs.Parts.{Bounded, LeastOf, numberFrom, bufferFrom}
-use Rattle.size.proofs.Parts.{lower-long}
+use Rattle.finish.specs.Parts.{Bounded, bufferFrom}
+use Rattle.finish.proofs.Parts.{lower-long}
+use Rattle.size.specs.Numbers.{numberFrom}
 
 -- questions 13 and 14
 module _ (net : Net) (lower upper : List ℕ) (b : Bounded net lower upper) where
@@ -61,12 +62,6 @@ module _ {c : Counts} {job lower upper : List ℕ} (k : Checked c job) (b : Boun
       → after ≡ bufferFrom (netBy c job) 14 before
   unfolding bufferFrom boundsReply
   buffer-14 e = e ∙ rw (lower-long k b, b .isLower, b .isUpper)
-
-  pub buffer-0 : (d : ℕ) (l w : List ℕ) → LeastOf (netBy c job) d l w
-      → after ≡ replyRecords (length lower) (littleEndian 8 d) (at lower) (at upper) (at l) (at w) ++ drop (8 * suc (length lower)) before
-      → after ≡ bufferFrom (netBy c job) 0 before
-  unfolding bufferFrom finishedReply
-  buffer-0 d l w f e = e ∙ rw (lower-long k b, b .isLower, b .isUpper, f .isLeast, f .isLean, f .isWide)
 
 -- the job's own questions
 unfoldable Most : ℕ → List Question → Type 0

@@ -1,9 +1,9 @@
 // Many framed calls from standard input, one line of answer each: the answers are compared with those of an independent search.
 // A frame is a byte for the operation, then its arguments: a slice as a length of two bytes, the lowest first, and its bytes; a place or a side
 // as one byte.
+use lattice::Side;
 use operations::Measurement;
 use operations::Refinement;
-use refine::Side;
 ghost use Prim.Native.Nat.{_<_, _≤_};
 ghost use lib.ListN.{length};
 

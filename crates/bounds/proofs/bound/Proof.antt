@@ -8,8 +8,8 @@ use Rattle.net.specs.Delay.{delay}
 use Rattle.net.specs.Sizings.{allowed}
 use Rattle.net.proofs.Dominance.{allowed-lattice, delay-submodular}
 use Rattle.net.proofs.Questions.{ordered}
-use Rattle.refine.specs.Sides.{sideOf}
-use Rattle.refine.proofs.Scanning.{allowed-long}
+use Rattle.lattice.specs.SideOf.{sideOf}
+use Rattle.net.proofs.Questions.{allowed-long}
 use Rattle.bounds.proofs.Sweeping.{swept-end}
 use Rattle.bounds.proofs.bound.Statement.{statement}
 use Rattle.bounds.proofs.bound.Tie as tie

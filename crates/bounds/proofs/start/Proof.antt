@@ -4,7 +4,7 @@ use Prim.Native.Nat.{_-_}
 use native.Mathlib.Omega.{arith}
 use borrow.Author.Needs.{needs}
 use Rattle.net.specs.Net.{netBy}
-use Rattle.refine.specs.Sides.{sideOf}
+use Rattle.lattice.specs.SideOf.{sideOf}
 use Rattle.bounds.proofs.Starting.{Starting, starting-start, starting-step, starting-end}
 use Rattle.bounds.proofs.start.Statement.{statement}
 use Rattle.bounds.proofs.start.Tie as tie

@@ -1,7 +1,7 @@
 -- `bounds::sweep` meets its contract: the loop knows what a sweep of the places passed comes to.
 use Rattle.bounds.proofs.Sweeping.{refined-long, Sweeping, sweeping-start, drives-yet, known-more, sweeping-step}
-use Rattle.refine.proofs.Scanning.{allowed-long}
-use Rattle.refine.specs.Sides.{sideOf}
+use Rattle.net.proofs.Questions.{allowed-long}
+use Rattle.lattice.specs.SideOf.{sideOf}
 use Rattle.net.proofs.Questions.{ordered}
 use Rattle.net.specs.Net.{netBy}
 use lib.ListN.{replicate, length-replicate}

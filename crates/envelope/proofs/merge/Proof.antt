@@ -4,7 +4,7 @@ use Prim.Native.Nat.{_-_}
 use borrow.Author.Needs.{needs}
 use lib.ListN.{length}
 use Rattle.lattice.specs.Side.{extreme}
-use Rattle.refine.specs.Sides.{sideOf}
+use Rattle.lattice.specs.SideOf.{sideOf}
 use Rattle.envelope.proofs.Merging.{Merging, merging-start, merging-step, merging-end}
 use Rattle.envelope.proofs.merge.Statement.{statement}
 use Rattle.envelope.proofs.merge.Tie as tie

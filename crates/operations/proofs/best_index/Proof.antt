@@ -5,7 +5,7 @@ use Rattle.net.specs.Net.{netBy}
 use Rattle.lattice.specs.Space.{Allowed}
 use Rattle.lattice.proofs.ListLaws.{copied}
 use Rattle.net.specs.Sizings.{allowed}
-use Rattle.refine.specs.Sides.{sideOf}
+use Rattle.lattice.specs.SideOf.{sideOf}
 use Rattle.operations.proofs.Cases.{refined-at}
 use borrow.Author.Needs.{needs}
 use Rattle.operations.proofs.best_index.Statement.{statement}

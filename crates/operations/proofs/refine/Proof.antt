@@ -5,7 +5,7 @@ use native.Mathlib.Omega.{arith}
 use lib.ListN.{replicate}
 use lib.Seq.{length-take-le}
 use Rattle.net.specs.Net.{netBy, places}
-use Rattle.refine.specs.Sides.{sideOf}
+use Rattle.lattice.specs.SideOf.{sideOf}
 use Rattle.allowed.proofs.Numbers.{number-ranges}
 use Rattle.operations.proofs.Cases.{sizing-allowed, refine-job, refine-sizing, refine-place, refine-answer}
 use borrow.Author.Needs.{needs}

@@ -2,7 +2,7 @@
 use mathlib.Core.Path.{refl}
 use borrow.Author.Needs.{needs}
 use native.Mathlib.Omega.{arith}
-use Rattle.questions.proofs.Ends.{kinds-known}
+use Rattle.runs.proofs.Ends.{kinds-known}
 use Rattle.questions.proofs.Numbers.{some-record, counted-held, refused-1, refused-2, asked-from-3}
 use Rattle.questions.proofs.questions_from_1.Statement.{statement}
 use Rattle.questions.proofs.questions_from_1.Tie as tie

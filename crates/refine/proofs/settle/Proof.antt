@@ -1,6 +1,7 @@
 -- `refine::settle` meets its contract: the loop knows the best index of those it has tried.
-use Rattle.refine.proofs.Scanning.{allowed-long, cost, cost-trades, figures-small, Scanning, scanning-start, scanning-take, scanning-keep, scanning-end}
-use Rattle.refine.specs.Sides.{sideOf}
+use Rattle.net.proofs.Questions.{allowed-long}
+use Rattle.refine.proofs.Scanning.{cost, cost-trades, figures-small, Scanning, scanning-start, scanning-take, scanning-keep, scanning-end}
+use Rattle.lattice.specs.SideOf.{sideOf}
 use Rattle.net.proofs.Questions.{ordered, limited}
 use Rattle.net.specs.Net.{netBy}
 use lib.ListN.{length-set}

@@ -1,5 +1,5 @@
 -- `search::search` meets its contract: the loop has the sizings with the indices passed, and each call has fewer places left.
-use Rattle.refine.proofs.Scanning.{allowed-long}
+use Rattle.net.proofs.Questions.{allowed-long}
 use Rattle.search.proofs.Calls.{few, load-most, weight-most, resistance-most, node-low, others-small, rest-low, rest-free, small, begin, high, shown-small, fits, ready, done, ended}
 use Rattle.search.proofs.Turns.{Turning}
 use Rattle.envelope.specs.Kept.{found}

@@ -1,5 +1,5 @@
 -- `search::between` meets its contract: it fills the tables as the search asks.
-use Rattle.refine.proofs.Scanning.{allowed-long}
+use Rattle.net.proofs.Questions.{allowed-long}
 use Rattle.net.specs.Net.{netBy}
 use native.Mathlib.Omega.{arith}
 use borrow.Author.Needs.{needs}

@@ -1,5 +1,5 @@
 -- `search::fixed_delay` meets its contract: the loop has what the held places passed add.
-use Rattle.refine.proofs.Scanning.{allowed-long}
+use Rattle.net.proofs.Questions.{allowed-long}
 use Rattle.search.proofs.Tables.{fixed-fits, fixed-none, fixed-step, fixed-skip}
 use Rattle.search.specs.Searching.{fixedFrom}
 use Rattle.place.proofs.Driving.{driven-most}

@@ -1,5 +1,5 @@
 -- `search::last` meets its contract: the loop has the sizings with the indices passed.
-use Rattle.refine.proofs.Scanning.{allowed-long}
+use Rattle.net.proofs.Questions.{allowed-long}
 use Rattle.search.proofs.Calls.{few, load-most, weight-most, resistance-most, small, begin, high, fits, taken, passed, ended}
 use Rattle.search.proofs.Turns.{Turning}
 use Rattle.envelope.specs.Kept.{found}

@@ -1,6 +1,6 @@
 -- `search::start` meets its contract: one sizing where no place is free, else the search from the last free place.
 use Rattle.search.proofs.Starting.{start-sized, start-found, start-one}
-use Rattle.refine.proofs.Scanning.{allowed-long}
+use Rattle.net.proofs.Questions.{allowed-long}
 use Rattle.search.proofs.Tables.{skip-free}
 use Rattle.net.specs.Net.{netBy}
 use Rattle.envelope.specs.Kept.{found}

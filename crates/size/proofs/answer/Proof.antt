@@ -6,7 +6,7 @@ use lib.Dec.{T, leb, leb→le}
 use Rattle.lattice.specs.Lists.{at, every}
 use Rattle.lattice.proofs.ListLaws.{every-at}
 use Rattle.net.specs.Net.{netBy, places}
-use Rattle.size.proofs.Parts.{lower-long, upper-long}
+use Rattle.finish.proofs.Parts.{lower-long, upper-long}
 use Rattle.size.proofs.Numbers.{number-13, number-14, number-0, buffer-13, buffer-14}
 use borrow.Author.Needs.{needs}
 use Rattle.size.proofs.answer.Statement.{statement}

@@ -6,7 +6,7 @@ use Rattle.size.proofs.bound_and_answer.Tie as tie
 use Rattle.size.proofs.bound_and_answer.Reads as reads
 use Rattle.size.proofs.bound_and_answer.Lts as lts
 use Rattle.bounds.proofs.bound.Reads as bound-reads
-use Rattle.place.proofs.weigh.Reads as weigh-reads
+use Rattle.weights.proofs.weigh.Reads as weigh-reads
 use Rattle.size.proofs.answer.Reads as answer-reads
 
 weigh-requires : tie.Need-weigh-requires

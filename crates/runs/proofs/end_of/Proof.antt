@@ -1,0 +1,52 @@
+-- `runs::end_of` meets its contract: the records before k are of kinds up to the one asked for.
+use Prim.Native.Nat.{_-_}
+use native.Mathlib.Omega.{arith}
+use Rattle.runs.specs.Kinds.{UpTo}
+use Rattle.runs.proofs.Ends.{one-more, ends-here, ends-last}
+use Rattle.runs.proofs.end_of.Statement.{statement}
+use Rattle.runs.proofs.end_of.Tie as tie
+
+abbrev Inv-loop : tie.InvT-loop
+Inv-loop job n from kind k₀ k = UpTo job n kind k
+
+abbrev μ-loop : tie.MeasureT-loop
+μ-loop job n from kind k₀ k = n - k
+
+loop-holds : tie.Need-loop-holds Inv-loop μ-loop
+loop-holds c = c .before .pre .1 .1
+
+mul-index-at : tie.Need-mul-index-at Inv-loop μ-loop
+mul-index-at c = omega arith
+
+index-at-requires : tie.Need-index-at-requires Inv-loop μ-loop
+index-at-requires c κs = omega arith
+
+returns : tie.Need-returns Inv-loop μ-loop
+returns c = ends-here (c .before .before .before .loop .inv) (c .before .before .before .before .before .pre .1 .0) (omega arith) (c .before .index-at .ensures .0) (omega arith)
+
+add-k : tie.Need-add-k Inv-loop μ-loop
+add-k c = omega arith
+
+loop-less : tie.Need-loop-less Inv-loop μ-loop
+loop-less c = omega arith
+
+loop-again : tie.Need-loop-again Inv-loop μ-loop
+loop-again c = one-more (c .before .before .before .loop .inv) (omega arith) (c .before .index-at .ensures .0) (omega arith)
+
+returns-2 : tie.Need-returns-2 Inv-loop μ-loop
+returns-2 c = ends-last (c .before .loop .inv) (omega arith)
+
+pub end-of-spec : {M : Type 1} → statement M
+end-of-spec =
+    tie.close
+    (tie.spec
+    Inv-loop
+    μ-loop
+    loop-holds
+    mul-index-at
+    index-at-requires
+    returns
+    add-k
+    loop-less
+    loop-again
+    returns-2)

@@ -1,0 +1,276 @@
+// Tests of each record of a run, and the counts of records by kind. A run is `count` records from the record `start` on. A test that fails ends
+// its loop.
+use net::Counts;
+ghost use mathlib.Core.Path.{_≡_};
+ghost use mathlib.Core.Bool.{cond};
+ghost use Prim.Native.Nat.{_+_, _*_, _<_, _≤_};
+ghost use lib.Dec.{eqb};
+ghost use lib.ListN.{length};
+ghost use Rattle.lattice.specs.Lists.{every};
+ghost use Rattle.runs.specs.Kinds.{Kinds, UpTo, Ends};
+ghost use Rattle.runs.specs.Records.{byteOf, wordOf, kindInOrder, numberInOrder, zeroFrom, zeroBytes, byteWithin, wordWithin, wordBelow, rangeWithin, parentInOrder, sinkOrNone, sinkOrBranch, countsTo};
+
+// The byte at `at` of the record k after `start`.
+pub fn byte_of(job: &[u8], start: usize, at: usize, k: usize) -> usize
+    requires { ⌜ (16 * (start + k) + 16 ≤ length (now job)) × (at < 16) ⌝ }
+    ensures { λ r. ⌜ (r ≡ byteOf (now (job .entry)) start at k) × (r < 256) ⌝ }
+{
+    job::index_at(job, 16 * (start + k) + at)
+}
+
+// The word at `at` of the record k after `start`.
+fn word_of(job: &[u8], start: usize, at: usize, k: usize) -> usize
+    requires { ⌜ (16 * (start + k) + 16 ≤ length (now job)) × (at ≤ 12) ⌝ }
+    ensures { λ r. ⌜ r ≡ wordOf (now (job .entry)) start at k ⌝ }
+{
+    job::word_at(job, 16 * (start + k) + at) as usize
+}
+
+// Does the kind fall nowhere in the first n + 1 records?
+pub fn kinds_in_order(job: &[u8], n: usize) -> bool
+    requires { ⌜ 16 * (n + 1) ≤ length (now job) ⌝ }
+    ensures { λ r. ⌜ r ≡ every n (kindInOrder (now (job .entry))) ⌝ }
+{
+    for k in 0..n {
+        let kind = job::index_at(job, 16 * k);
+        let next = job::index_at(job, 16 * (k + 1));
+        let passed = kind <= next;
+        if !passed {
+            return false;
+        }
+    }
+    true
+}
+
+// Do the numbers of a run of records count from 0?
+pub fn numbers_in_order(job: &[u8], start: usize, count: usize) -> bool
+    requires { ⌜ 16 * (start + count) ≤ length (now job) ⌝ }
+    ensures { λ r. ⌜ r ≡ every count (numberInOrder (now (job .entry)) start) ⌝ }
+{
+    for k in 0..count {
+        let number = byte_of(job, start, 1, k);
+        let passed = number == k;
+        if !passed {
+            return false;
+        }
+    }
+    true
+}
+
+// Are the n bytes from p on zero?
+fn zero_from(job: &[u8], p: usize, n: usize) -> bool
+    requires { ⌜ p + n ≤ length (now job) ⌝ }
+    ensures { λ r. ⌜ r ≡ zeroFrom (now (job .entry)) p n ⌝ }
+{
+    for k in 0..n {
+        let byte = job::index_at(job, p + k);
+        let passed = byte == 0;
+        if !passed {
+            return false;
+        }
+    }
+    true
+}
+
+// Are n bytes from `at` on zero in each record of a run?
+pub fn bytes_zero(job: &[u8], start: usize, count: usize, at: usize, n: usize) -> bool
+    requires { ⌜ (16 * (start + count) ≤ length (now job)) × (at + n ≤ 16) ⌝ }
+    ensures { λ r. ⌜ r ≡ every count (zeroBytes (now (job .entry)) start at n) ⌝ }
+{
+    for k in 0..count {
+        let passed = zero_from(job, 16 * (start + k) + at, n);
+        if !passed {
+            return false;
+        }
+    }
+    true
+}
+
+// Is the byte at `at` from least to most in each record of a run?
+pub fn bytes_within(
+    job: &[u8],
+    start: usize,
+    count: usize,
+    at: usize,
+    least: usize,
+    most: usize,
+) -> bool
+    requires { ⌜ (16 * (start + count) ≤ length (now job)) × (at < 16) ⌝ }
+    ensures { λ r. ⌜ r ≡ every count (byteWithin (now (job .entry)) start at least most) ⌝ }
+{
+    for k in 0..count {
+        let v = byte_of(job, start, at, k);
+        let passed = (least <= v) & (v <= most);
+        if !passed {
+            return false;
+        }
+    }
+    true
+}
+
+// Is the word at `at` from least to most in each record of a run?
+pub fn words_within(
+    job: &[u8],
+    start: usize,
+    count: usize,
+    at: usize,
+    least: usize,
+    most: usize,
+) -> bool
+    requires { ⌜ (16 * (start + count) ≤ length (now job)) × (at ≤ 12) ⌝ }
+    ensures { λ r. ⌜ r ≡ every count (wordWithin (now (job .entry)) start at least most) ⌝ }
+{
+    for k in 0..count {
+        let v = word_of(job, start, at, k);
+        let passed = (least <= v) & (v <= most);
+        if !passed {
+            return false;
+        }
+    }
+    true
+}
+
+// Is the word at `at` in each record of the run from `low` on below that in the run from `high` on?
+pub fn words_below(job: &[u8], low: usize, high: usize, count: usize, at: usize) -> bool
+    requires { ⌜ (16 * (low + count) ≤ length (now job)) × (16 * (high + count) ≤ length (now job)) × (at ≤ 12) ⌝ }
+    ensures { λ r. ⌜ r ≡ every count (wordBelow (now (job .entry)) low high at) ⌝ }
+{
+    for k in 0..count {
+        let below = word_of(job, low, at, k);
+        let above = word_of(job, high, at, k);
+        let passed = below < above;
+        if !passed {
+            return false;
+        }
+    }
+    true
+}
+
+// Is the byte at `at` at most the next one, and that one below n, in each record of a run?
+pub fn ranges_within(job: &[u8], start: usize, count: usize, at: usize, n: usize) -> bool
+    requires { ⌜ (16 * (start + count) ≤ length (now job)) × (at < 15) ⌝ }
+    ensures { λ r. ⌜ r ≡ every count (rangeWithin (now (job .entry)) start at n) ⌝ }
+{
+    for k in 0..count {
+        let lowest = byte_of(job, start, at, k);
+        let highest = byte_of(job, start, at + 1, k);
+        let passed = (lowest <= highest) & (highest < n);
+        if !passed {
+            return false;
+        }
+    }
+    true
+}
+
+// Is each segment's parent byte at most its own number?
+pub fn parents_in_order(job: &[u8], start: usize, count: usize) -> bool
+    requires { ⌜ 16 * (start + count) ≤ length (now job) ⌝ }
+    ensures { λ r. ⌜ r ≡ every count (parentInOrder (now (job .entry)) start) ⌝ }
+{
+    for k in 0..count {
+        let parent = byte_of(job, start, 2, k);
+        let passed = parent <= k;
+        if !passed {
+            return false;
+        }
+    }
+    true
+}
+
+// Has each segment a sink, or neither sink capacitance nor weight?
+pub fn sinks_or_none(job: &[u8], start: usize, count: usize) -> bool
+    requires { ⌜ 16 * (start + count) ≤ length (now job) ⌝ }
+    ensures { λ r. ⌜ r ≡ every count (sinkOrNone (now (job .entry)) start) ⌝ }
+{
+    for k in 0..count {
+        let sink = byte_of(job, start, 3, k);
+        let capacitance = word_of(job, start, 8, k);
+        let weight = byte_of(job, start, 12, k);
+        let passed = (sink != 0) | ((capacitance == 0) & (weight == 0));
+        if !passed {
+            return false;
+        }
+    }
+    true
+}
+
+// Has each segment a sink, or branches? Where it has none, the first segment at its far end is the one past the last.
+pub fn sinks_or_branches(job: &[u8], first: &[usize], start: usize, count: usize) -> bool
+    requires { ⌜ (16 * (start + count) ≤ length (now job)) × (count < length (now first)) ⌝ }
+    ensures { λ r. ⌜ r ≡ every count (sinkOrBranch (now (job .entry)) (now (first .entry)) start count) ⌝ }
+{
+    for k in 0..count {
+        let sink = byte_of(job, start, 3, k);
+        let branch = first[k + 1];
+        let passed = (sink != 0) | (branch < count);
+        if !passed {
+            return false;
+        }
+    }
+    true
+}
+
+// 1 where a record is of a kind, else 0.
+fn one_if(kind: usize, of: usize) -> usize
+    ensures { λ r. ⌜ (r ≡ cond (eqb kind of) 1 0) × (r ≤ 1) ⌝ }
+{
+    (kind == of) as usize
+}
+
+// How many of the first n records are of each kind, in whatever order they stand.
+pub fn count_any(job: &[u8], n: usize) -> Counts
+    requires { ⌜ 16 * n ≤ length (now job) ⌝ }
+    ensures { λ r. ⌜ r ≡ countsTo (now (job .entry)) n ⌝ }
+{
+    let mut widths = 0;
+    let mut sizes = 0;
+    let mut stages = 0;
+    let mut segments = 0;
+    for k in 0..n {
+        let kind = job::index_at(job, 16 * k);
+        widths += one_if(kind, 1);
+        sizes += one_if(kind, 2);
+        stages += one_if(kind, 3);
+        segments += one_if(kind, 4);
+    }
+    Counts {
+        widths: widths,
+        sizes: sizes,
+        stages: stages,
+        segments: segments,
+    }
+}
+
+// The first of n records whose kind is above `kind`, or n. The records before `from` are known to be of kinds up to it.
+fn end_of(job: &[u8], n: usize, from: usize, kind: usize) -> usize
+    requires { ⌜ 16 * n ≤ length (now job) ⌝ }
+    requires { ⌜ Kinds (now job) n ⌝ }
+    requires { ⌜ UpTo (now job) n kind from ⌝ }
+    ensures { λ r. ⌜ Ends (now (job .entry)) n kind r ⌝ }
+{
+    let mut k = from;
+    while k < n {
+        if kind < job::index_at(job, 16 * k) {
+            return k;
+        }
+        k += 1;
+    }
+    n
+}
+
+// How many of the first n records are of each kind, where their kinds are 1 to 4 and never fall: each kind is one run of records.
+pub fn count(job: &[u8], n: usize) -> Counts
+    requires { ⌜ 16 * n ≤ length (now job) ⌝ }
+    requires { ⌜ Kinds (now job) n ⌝ }
+    ensures { λ r. ⌜ r ≡ countsTo (now (job .entry)) n ⌝ }
+{
+    let widths = end_of(job, n, 0, 1);
+    let sizes = end_of(job, n, widths, 2);
+    let stages = end_of(job, n, sizes, 3);
+    Counts {
+        widths: widths,
+        sizes: sizes - widths,
+        stages: stages - sizes,
+        segments: n - stages,
+    }
+}

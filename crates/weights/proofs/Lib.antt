@@ -1,0 +1,2 @@
+pub mod LinkedSums
+pub mod Weighing
