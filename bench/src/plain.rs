@@ -537,35 +537,48 @@ impl Search<'_, '_> {
         }
         match self.skips[places] {
             0 => self.found.keep(self.x, fixed),
+            left if self.skips[left - 1] == 0 => self.last(left, fixed),
             left => self.places_before(left, fixed),
         }
     }
 
-    /// Takes every sizing that has the indices of x from `left` on; the place before `left` is free.
+    /// Takes every sizing that has the indices of x but at the place before `left`, the last one that is free.
+    fn last(&mut self, left: usize, added: u64) {
+        let p = left - 1;
+        let (weight, upstream) = (self.sums.weights[p], self.sums.upstream[p]);
+        let driven = self.sums.driven[p] + self.gathered[p + 1];
+        let length = self.net.length(p);
+        for k in self.lower[p]..=self.upper[p] {
+            let step = self.net.step(weight, length, k, driven);
+            let reached = added + step.delay + upstream * step.load;
+            if reached <= self.found.least {
+                self.x[p] = k;
+                self.found.keep(self.x, reached);
+            }
+        }
+    }
+
+    /// Takes every sizing that has the indices of x from `left` on; the place before `left` is free, and not the last
+    /// one that is.
     fn places_before(&mut self, left: usize, added: u64) {
         let p = left - 1;
         let (weight, upstream) = (self.sums.weights[p], self.sums.upstream[p]);
         let driven = self.sums.driven[p] + self.gathered[p + 1];
         let length = self.net.length(p);
         let rest = self.skips[p];
-        if rest == 0 {
-            for k in self.lower[p]..=self.upper[p] {
-                let step = self.net.step(weight, length, k, driven);
-                let reached = added + step.delay + upstream * step.load;
-                if reached <= self.found.least {
-                    self.x[p] = k;
-                    self.found.keep(self.x, reached);
-                }
-            }
-            return;
-        }
+        let further = self.skips[rest - 1];
         let node = self.ups[p];
         let before = self.gathered[node];
         for k in self.lower[p]..=self.upper[p] {
             let step = self.net.step(weight, length, k, driven);
+            let reached = added + step.delay + upstream * step.load;
             self.x[p] = k;
             self.gathered[node] = before + step.load;
-            self.places_before(rest, added + step.delay + upstream * step.load);
+            if further == 0 {
+                self.last(rest, reached);
+            } else {
+                self.places_before(rest, reached);
+            }
         }
         self.gathered[node] = before;
     }

@@ -154,8 +154,8 @@ fn last(
     best
 }
 
-// Takes every sizing that has the indices of x from `left` on and lies between the bounds before it, where the place before `left` is free. The
-// loads of the free places from `left` on, each at the node where it arrives, and the delay so far are carried along.
+// Takes every sizing that has the indices of x from `left` on and lies between the bounds before it, where the place before `left` is free and
+// not the last one that is. The loads of the free places from `left` on, each at the node where it arrives, and the delay so far are carried along.
 fn search(
     job: &[u8],
     counts: Counts,
@@ -176,31 +176,12 @@ fn search(
 ) -> Delay
     requires { ⌜ Prepared counts (now job) (now weights) (now upstream) (now driven) (now ups) (now skips) (now lower) (now upper) ⌝ }
     requires { ⌜ Sized (netBy counts (now job)) (now lower) (now upper) (now upstream) (now driven) (now ups) left (added .0) (now x) (now gathered) (now lean) (now wide) ⌝ }
-    requires { ⌜ (0 < left) × (free (now lower) (now upper) (left - 1) ≡ true) ⌝ }
+    requires { ⌜ (0 < left) × (free (now lower) (now upper) (left - 1) ≡ true) × (0 < at (now skips) (left - 1)) ⌝ }
     ensures { λ r. ⌜ Searched (netBy counts (now (job .entry))) (now (lower .entry)) (now (upper .entry)) left (now (x .entry)) (now (gathered .entry)) (found (least .0) (now (lean .entry)) (now (wide .entry))) (now (x .exit)) (now (gathered .exit)) (found (r .0) (now (lean .exit)) (now (wide .exit))) ⌝ }
 {
     let p = left - 1;
     let rest = skips[p];
-    if rest == 0 {
-        return last(
-            job,
-            counts,
-            weights,
-            upstream,
-            driven,
-            ups,
-            skips,
-            lower,
-            upper,
-            left,
-            added,
-            x,
-            gathered,
-            least,
-            lean,
-            wide,
-        );
-    }
+    let further = skips[rest - 1];
     let weight = weights[p];
     let before = Resistance(upstream[p]);
     let load = Capacitance(driven[p] + gathered[p + 1]);
@@ -215,25 +196,46 @@ fn search(
         let shown = step.load;
         x[p] = k;
         gathered[node] = others + shown.0;
-        best = search(
-            job,
-            counts,
-            weights,
-            upstream,
-            driven,
-            ups,
-            skips,
-            lower,
-            upper,
-            rest,
-            reached,
-            x,
-            gathered,
-            best,
-            lean,
-            wide,
-        );
         k += 1;
+        if further == 0 {
+            best = last(
+                job,
+                counts,
+                weights,
+                upstream,
+                driven,
+                ups,
+                skips,
+                lower,
+                upper,
+                rest,
+                reached,
+                x,
+                gathered,
+                best,
+                lean,
+                wide,
+            );
+        } else {
+            best = search(
+                job,
+                counts,
+                weights,
+                upstream,
+                driven,
+                ups,
+                skips,
+                lower,
+                upper,
+                rest,
+                reached,
+                x,
+                gathered,
+                best,
+                lean,
+                wide,
+            );
+        }
     }
     gathered[node] = others;
     best
@@ -266,6 +268,26 @@ fn start(
         return envelope::keep(x, fixed, least, lean, wide);
     }
     let mut gathered = [0u64; 69];
+    if skips[left - 1] == 0 {
+        return last(
+            job,
+            counts,
+            weights,
+            upstream,
+            driven,
+            ups,
+            skips,
+            lower,
+            upper,
+            left,
+            fixed,
+            x,
+            &gathered,
+            least,
+            lean,
+            wide,
+        );
+    }
     search(
         job,
         counts,

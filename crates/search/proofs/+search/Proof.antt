@@ -34,22 +34,22 @@ search-below t = and 12 search-kinds.ps (falls 12 search-kinds.ps _<_ μ-search 
 -- what each callee asks and tells
 abbrev search-claims : ℕ → search-lts.Claims
 search-claims t = (
-  last-reads.Asked,
-  last-reads.Learnt,
   step-reads.Asked,
   step-reads.Learnt,
   add-delay-reads.Asked,
   add-delay-reads.Learnt,
+  last-reads.Asked,
+  last-reads.Learnt,
   search-below t,
   search′.Post,
 )
 
 abbrev search-Inv-loop : search-lts.InvT-loop
-search-Inv-loop job counts weights upstream driven ups skips lower upper left added x₀ gathered₀ lean₀ wide₀ p rest weight before load node others top k₀ best₀ x gathered lean wide k best =
+search-Inv-loop job counts weights upstream driven ups skips lower upper left added x₀ gathered₀ lean₀ wide₀ p rest further weight before load node others top k₀ best₀ x gathered lean wide k best =
     Turning (netBy counts job) lower upper p x₀ (found (best₀ .0) lean₀ wide₀) x k (found (best .0) lean wide) × ((v : ℕ) → set gathered node v ≡ set gathered₀ node v)
 
 abbrev search-μ-loop : search-lts.MeasureT-loop
-search-μ-loop job counts weights upstream driven ups skips lower upper left added x₀ gathered₀ lean₀ wide₀ p rest weight before load node others top k₀ best₀ x gathered lean wide k best = suc top - k
+search-μ-loop job counts weights upstream driven ups skips lower upper left added x₀ gathered₀ lean₀ wide₀ p rest further weight before load node others top k₀ best₀ x gathered lean wide k best = suc top - k
 
 search-sub-p : (t : ℕ) → search-lts.Need-sub-p (search-claims t) (search-at t) search′.Post search-Inv-loop search-μ-loop
 search-sub-p t c =
@@ -59,74 +59,72 @@ search-sub-p t c =
 search-mul-rest : (t : ℕ) → search-lts.Need-mul-rest (search-claims t) (search-at t) search′.Post search-Inv-loop search-μ-loop
 search-mul-rest t c =
     let b = c .before .before .before .before .before .before in
-    omega (arith, few (b .pre .1 .0) (b .pre .1 .1 .0) (b .args .least .0) (b .pre .1 .1 .1 .0) (b .pre .1 .1 .1 .1), b .pre .1 .0 .checked .fewStages, b .pre .1 .0 .checked .fewSegments)
+    omega (arith, b .pre .1 .1 .0 .few, b .pre .1 .1 .1 .0, b .pre .1 .0 .checked .fewStages, b .pre .1 .0 .checked .fewSegments)
 
 search-element-copy-out-rest : (t : ℕ) → search-lts.Need-element-copy-out-rest (search-claims t) (search-at t) search′.Post search-Inv-loop search-μ-loop
 search-element-copy-out-rest t c =
     let b = c .before .before .before .before .before .before in
-    omega (arith, few (b .pre .1 .0) (b .pre .1 .1 .0) (b .args .least .0) (b .pre .1 .1 .1 .0) (b .pre .1 .1 .1 .1), b .pre .1 .0 .checked .fewStages, b .pre .1 .0 .checked .fewSegments)
+    omega (arith, b .pre .1 .1 .0 .few, b .pre .1 .1 .1 .0, b .pre .1 .0 .checked .fewStages, b .pre .1 .0 .checked .fewSegments)
 
-search-last-requires : (t : ℕ) → search-lts.Need-last-requires (search-claims t) (search-at t) search′.Post search-Inv-loop search-μ-loop
-search-last-requires t c κs =
-    let b = c .before .before .before .before .before .before .before .before .before .before .before .before in
-    (b .pre .1 .0, (b .pre .1 .1 .0, (b .pre .1 .1 .1 .0, b .pre .1 .1 .1 .1, c .before .before .before .before .if1 .taken)))
+search-sub-further : (t : ℕ) → search-lts.Need-sub-further (search-claims t) (search-at t) search′.Post search-Inv-loop search-μ-loop
+search-sub-further t c =
+    let b = c .before .before .before .before .before .before .before in
+    omega (arith, b .pre .1 .1 .1 .2)
 
-search-same-length : (t : ℕ) → search-lts.Need-same-length (search-claims t) (search-at t) search′.Post search-Inv-loop search-μ-loop
-search-same-length t c = c .before .before .before .before .before .before .last .kept .1 .1 .1 .1 .1 .1 .1 .1 .1 .1 .1 .0
+search-mul-further : (t : ℕ) → search-lts.Need-mul-further (search-claims t) (search-at t) search′.Post search-Inv-loop search-μ-loop
+search-mul-further t c =
+    let b = c .before .before .before .before .before .before .before in
+    omega (arith, rest-low (b .pre .1 .0) (b .pre .1 .1 .0) (b .args .least .0) (b .pre .1 .1 .1 .0) (b .pre .1 .1 .1 .1), b .pre .1 .1 .0 .few, b .pre .1 .1 .1 .0, b .pre .1 .0 .checked .fewStages, b .pre .1 .0 .checked .fewSegments)
 
-search-same-length-2 : (t : ℕ) → search-lts.Need-same-length-2 (search-claims t) (search-at t) search′.Post search-Inv-loop search-μ-loop
-search-same-length-2 t c = c .before .before .before .before .before .before .last .kept .1 .1 .1 .1 .1 .1 .1 .1 .1 .1 .1 .1 .1 .1 .0
-
-search-same-length-3 : (t : ℕ) → search-lts.Need-same-length-3 (search-claims t) (search-at t) search′.Post search-Inv-loop search-μ-loop
-search-same-length-3 t c = c .before .before .before .before .before .before .last .kept .1 .1 .1 .1 .1 .1 .1 .1 .1 .1 .1 .1 .1 .1 .1 .0
-
-search-returns : (t : ℕ) → search-lts.Need-returns (search-claims t) (search-at t) search′.Post search-Inv-loop search-μ-loop
-search-returns t c = c .before .before .before .before .before .before .last .ensures
+search-element-copy-out-further : (t : ℕ) → search-lts.Need-element-copy-out-further (search-claims t) (search-at t) search′.Post search-Inv-loop search-μ-loop
+search-element-copy-out-further t c =
+    let b = c .before .before .before .before .before .before .before in
+    omega (arith, rest-low (b .pre .1 .0) (b .pre .1 .1 .0) (b .args .least .0) (b .pre .1 .1 .1 .0) (b .pre .1 .1 .1 .1), b .pre .1 .1 .0 .few, b .pre .1 .1 .1 .0, b .pre .1 .0 .checked .fewStages, b .pre .1 .0 .checked .fewSegments)
 
 search-mul-weight : (t : ℕ) → search-lts.Need-mul-weight (search-claims t) (search-at t) search′.Post search-Inv-loop search-μ-loop
 search-mul-weight t c =
     let b = c .before .before .before .before .before .before .before .before in
-    omega (arith, few (b .pre .1 .0) (b .pre .1 .1 .0) (b .args .least .0) (b .pre .1 .1 .1 .0) (b .pre .1 .1 .1 .1), b .pre .1 .0 .checked .fewStages, b .pre .1 .0 .checked .fewSegments)
+    omega (arith, b .pre .1 .1 .0 .few, b .pre .1 .1 .1 .0, b .pre .1 .0 .checked .fewStages, b .pre .1 .0 .checked .fewSegments)
 
 search-element-copy-out-weight : (t : ℕ) → search-lts.Need-element-copy-out-weight (search-claims t) (search-at t) search′.Post search-Inv-loop search-μ-loop
 search-element-copy-out-weight t c =
     let b = c .before .before .before .before .before .before .before .before in
-    omega (arith, few (b .pre .1 .0) (b .pre .1 .1 .0) (b .args .least .0) (b .pre .1 .1 .1 .0) (b .pre .1 .1 .1 .1), b .pre .1 .0 .checked .fewStages, b .pre .1 .0 .checked .fewSegments)
+    omega (arith, b .pre .1 .1 .0 .few, b .pre .1 .1 .1 .0, b .pre .1 .0 .checked .fewStages, b .pre .1 .0 .checked .fewSegments)
 
 search-mul-others : (t : ℕ) → search-lts.Need-mul-others (search-claims t) (search-at t) search′.Post search-Inv-loop search-μ-loop
 search-mul-others t c =
     let b = c .before .before .before .before .before .before .before .before .before in
-    omega (arith, few (b .pre .1 .0) (b .pre .1 .1 .0) (b .args .least .0) (b .pre .1 .1 .1 .0) (b .pre .1 .1 .1 .1), b .pre .1 .0 .checked .fewStages, b .pre .1 .0 .checked .fewSegments)
+    omega (arith, b .pre .1 .1 .0 .few, b .pre .1 .1 .1 .0, b .pre .1 .0 .checked .fewStages, b .pre .1 .0 .checked .fewSegments)
 
 search-element-copy-out-others : (t : ℕ) → search-lts.Need-element-copy-out-others (search-claims t) (search-at t) search′.Post search-Inv-loop search-μ-loop
 search-element-copy-out-others t c =
     let b = c .before .before .before .before .before .before .before .before .before in
-    omega (arith, few (b .pre .1 .0) (b .pre .1 .1 .0) (b .args .least .0) (b .pre .1 .1 .1 .0) (b .pre .1 .1 .1 .1), b .pre .1 .0 .checked .fewStages, b .pre .1 .0 .checked .fewSegments)
+    omega (arith, b .pre .1 .1 .0 .few, b .pre .1 .1 .1 .0, b .pre .1 .0 .checked .fewStages, b .pre .1 .0 .checked .fewSegments)
 
 search-mul-others-2 : (t : ℕ) → search-lts.Need-mul-others-2 (search-claims t) (search-at t) search′.Post search-Inv-loop search-μ-loop
 search-mul-others-2 t c =
     let b = c .before .before .before .before .before .before .before .before .before .before in
-    omega (arith, few (b .pre .1 .0) (b .pre .1 .1 .0) (b .args .least .0) (b .pre .1 .1 .1 .0) (b .pre .1 .1 .1 .1), b .pre .1 .0 .checked .fewStages, b .pre .1 .0 .checked .fewSegments)
+    omega (arith, b .pre .1 .1 .0 .few, b .pre .1 .1 .1 .0, b .pre .1 .0 .checked .fewStages, b .pre .1 .0 .checked .fewSegments)
 
 search-element-copy-out-others-2 : (t : ℕ) → search-lts.Need-element-copy-out-others-2 (search-claims t) (search-at t) search′.Post search-Inv-loop search-μ-loop
 search-element-copy-out-others-2 t c =
     let b = c .before .before .before .before .before .before .before .before .before .before in
-    omega (arith, few (b .pre .1 .0) (b .pre .1 .1 .0) (b .args .least .0) (b .pre .1 .1 .1 .0) (b .pre .1 .1 .1 .1), b .pre .1 .0 .checked .fewStages, b .pre .1 .0 .checked .fewSegments)
+    omega (arith, b .pre .1 .1 .0 .few, b .pre .1 .1 .1 .0, b .pre .1 .0 .checked .fewStages, b .pre .1 .0 .checked .fewSegments)
 
 search-add-others : (t : ℕ) → search-lts.Need-add-others (search-claims t) (search-at t) search′.Post search-Inv-loop search-μ-loop
 search-add-others t c =
     let b = c .before .before .before .before .before .before .before .before .before .before .before in
-    omega (arith, few (b .pre .1 .0) (b .pre .1 .1 .0) (b .args .least .0) (b .pre .1 .1 .1 .0) (b .pre .1 .1 .1 .1), b .pre .1 .0 .checked .fewStages, b .pre .1 .0 .checked .fewSegments)
+    omega (arith, b .pre .1 .1 .0 .few, b .pre .1 .1 .1 .0, b .pre .1 .0 .checked .fewStages, b .pre .1 .0 .checked .fewSegments)
 
 search-mul-others-3 : (t : ℕ) → search-lts.Need-mul-others-3 (search-claims t) (search-at t) search′.Post search-Inv-loop search-μ-loop
 search-mul-others-3 t c =
     let b = c .before .before .before .before .before .before .before .before .before .before .before in
-    omega (arith, few (b .pre .1 .0) (b .pre .1 .1 .0) (b .args .least .0) (b .pre .1 .1 .1 .0) (b .pre .1 .1 .1 .1), b .pre .1 .0 .checked .fewStages, b .pre .1 .0 .checked .fewSegments)
+    omega (arith, b .pre .1 .1 .0 .few, b .pre .1 .1 .1 .0, b .pre .1 .0 .checked .fewStages, b .pre .1 .0 .checked .fewSegments)
 
 search-element-copy-out-others-3 : (t : ℕ) → search-lts.Need-element-copy-out-others-3 (search-claims t) (search-at t) search′.Post search-Inv-loop search-μ-loop
 search-element-copy-out-others-3 t c =
     let b = c .before .before .before .before .before .before .before .before .before .before .before in
-    omega (arith, few (b .pre .1 .0) (b .pre .1 .1 .0) (b .args .least .0) (b .pre .1 .1 .1 .0) (b .pre .1 .1 .1 .1), b .pre .1 .0 .checked .fewStages, b .pre .1 .0 .checked .fewSegments)
+    omega (arith, b .pre .1 .1 .0 .few, b .pre .1 .1 .1 .0, b .pre .1 .0 .checked .fewStages, b .pre .1 .0 .checked .fewSegments)
 
 search-add-others-2 : (t : ℕ) → search-lts.Need-add-others-2 (search-claims t) (search-at t) search′.Post search-Inv-loop search-μ-loop
 search-add-others-2 t c =
@@ -136,32 +134,32 @@ search-add-others-2 t c =
 search-mul-node : (t : ℕ) → search-lts.Need-mul-node (search-claims t) (search-at t) search′.Post search-Inv-loop search-μ-loop
 search-mul-node t c =
     let b = c .before .before .before .before .before .before .before .before .before .before .before .before in
-    omega (arith, few (b .pre .1 .0) (b .pre .1 .1 .0) (b .args .least .0) (b .pre .1 .1 .1 .0) (b .pre .1 .1 .1 .1), b .pre .1 .0 .checked .fewStages, b .pre .1 .0 .checked .fewSegments)
+    omega (arith, b .pre .1 .1 .0 .few, b .pre .1 .1 .1 .0, b .pre .1 .0 .checked .fewStages, b .pre .1 .0 .checked .fewSegments)
 
 search-element-copy-out-node : (t : ℕ) → search-lts.Need-element-copy-out-node (search-claims t) (search-at t) search′.Post search-Inv-loop search-μ-loop
 search-element-copy-out-node t c =
     let b = c .before .before .before .before .before .before .before .before .before .before .before .before in
-    omega (arith, few (b .pre .1 .0) (b .pre .1 .1 .0) (b .args .least .0) (b .pre .1 .1 .1 .0) (b .pre .1 .1 .1 .1), b .pre .1 .0 .checked .fewStages, b .pre .1 .0 .checked .fewSegments)
+    omega (arith, b .pre .1 .1 .0 .few, b .pre .1 .1 .1 .0, b .pre .1 .0 .checked .fewStages, b .pre .1 .0 .checked .fewSegments)
 
 search-mul-others-4 : (t : ℕ) → search-lts.Need-mul-others-4 (search-claims t) (search-at t) search′.Post search-Inv-loop search-μ-loop
 search-mul-others-4 t c =
     let b = c .before .before .before .before .before .before .before .before .before .before .before .before .before in
-    omega (arith, node-low (b .pre .1 .0) (b .pre .1 .1 .0) (b .args .least .0) (b .pre .1 .1 .1 .0) (b .pre .1 .1 .1 .1), few (b .pre .1 .0) (b .pre .1 .1 .0) (b .args .least .0) (b .pre .1 .1 .1 .0) (b .pre .1 .1 .1 .1), b .pre .1 .0 .checked .fewStages, b .pre .1 .0 .checked .fewSegments)
+    omega (arith, node-low (b .pre .1 .0) (b .pre .1 .1 .0) (b .args .least .0) (b .pre .1 .1 .1 .0) (b .pre .1 .1 .1 .1), b .pre .1 .1 .0 .few, b .pre .1 .1 .1 .0, b .pre .1 .0 .checked .fewStages, b .pre .1 .0 .checked .fewSegments)
 
 search-element-copy-out-others-4 : (t : ℕ) → search-lts.Need-element-copy-out-others-4 (search-claims t) (search-at t) search′.Post search-Inv-loop search-μ-loop
 search-element-copy-out-others-4 t c =
     let b = c .before .before .before .before .before .before .before .before .before .before .before .before .before in
-    omega (arith, node-low (b .pre .1 .0) (b .pre .1 .1 .0) (b .args .least .0) (b .pre .1 .1 .1 .0) (b .pre .1 .1 .1 .1), few (b .pre .1 .0) (b .pre .1 .1 .0) (b .args .least .0) (b .pre .1 .1 .1 .0) (b .pre .1 .1 .1 .1), b .pre .1 .0 .checked .fewStages, b .pre .1 .0 .checked .fewSegments)
+    omega (arith, node-low (b .pre .1 .0) (b .pre .1 .1 .0) (b .args .least .0) (b .pre .1 .1 .1 .0) (b .pre .1 .1 .1 .1), b .pre .1 .1 .0 .few, b .pre .1 .1 .1 .0, b .pre .1 .0 .checked .fewStages, b .pre .1 .0 .checked .fewSegments)
 
 search-shared-slice-read-top : (t : ℕ) → search-lts.Need-shared-slice-read-top (search-claims t) (search-at t) search′.Post search-Inv-loop search-μ-loop
 search-shared-slice-read-top t c =
     let b = c .before .before .before .before .before .before .before .before .before .before .before .before .before .before .before in
-    omega (arith, few (b .pre .1 .0) (b .pre .1 .1 .0) (b .args .least .0) (b .pre .1 .1 .1 .0) (b .pre .1 .1 .1 .1), allowed-long (netBy (b .args .counts) (b .args .job .now)) (b .args .upper .now) (b .pre .1 .0 .upperAllowed))
+    omega (arith, b .pre .1 .1 .0 .few, b .pre .1 .1 .1 .0, allowed-long (netBy (b .args .counts) (b .args .job .now)) (b .args .upper .now) (b .pre .1 .0 .upperAllowed))
 
 search-shared-slice-read-k : (t : ℕ) → search-lts.Need-shared-slice-read-k (search-claims t) (search-at t) search′.Post search-Inv-loop search-μ-loop
 search-shared-slice-read-k t c =
     let b = c .before .before .before .before .before .before .before .before .before .before .before .before .before .before .before .before in
-    omega (arith, few (b .pre .1 .0) (b .pre .1 .1 .0) (b .args .least .0) (b .pre .1 .1 .1 .0) (b .pre .1 .1 .1 .1), allowed-long (netBy (b .args .counts) (b .args .job .now)) (b .args .lower .now) (b .pre .1 .0 .lowerAllowed))
+    omega (arith, b .pre .1 .1 .0 .few, b .pre .1 .1 .1 .0, allowed-long (netBy (b .args .counts) (b .args .job .now)) (b .args .lower .now) (b .pre .1 .0 .lowerAllowed))
 
 search-loop-holds : (t : ℕ) → search-lts.Need-loop-holds (search-claims t) (search-at t) search′.Post search-Inv-loop search-μ-loop
 search-loop-holds t c =
@@ -184,7 +182,7 @@ search-slice-write-x : (t : ℕ) → search-lts.Need-slice-write-x (search-claim
 search-slice-write-x t c =
     let b = c .before .before .before .before .before .before .before .before .before .before .before .before .before .before .before .before .before .before .before .before .before in
     let l = c .before .before .before .before .loop in
-    omega (arith, few (b .pre .1 .0) (b .pre .1 .1 .0) (b .args .least .0) (b .pre .1 .1 .1 .0) (b .pre .1 .1 .1 .1), allowed-long (netBy (b .args .counts) (b .args .job .now)) (l .x) (l .inv .0 .allowed))
+    omega (arith, b .pre .1 .1 .0 .few, b .pre .1 .1 .1 .0, allowed-long (netBy (b .args .counts) (b .args .job .now)) (l .x) (l .inv .0 .allowed))
 
 search-add-gathered : (t : ℕ) → search-lts.Need-add-gathered (search-claims t) (search-at t) search′.Post search-Inv-loop search-μ-loop
 search-add-gathered t c =
@@ -195,76 +193,86 @@ search-add-gathered t c =
 search-mul-gathered : (t : ℕ) → search-lts.Need-mul-gathered (search-claims t) (search-at t) search′.Post search-Inv-loop search-μ-loop
 search-mul-gathered t c =
     let b = c .before .before .before .before .before .before .before .before .before .before .before .before .before .before .before .before .before .before .before .before .before .before in
-    omega (arith, node-low (b .pre .1 .0) (b .pre .1 .1 .0) (b .args .least .0) (b .pre .1 .1 .1 .0) (b .pre .1 .1 .1 .1), few (b .pre .1 .0) (b .pre .1 .1 .0) (b .args .least .0) (b .pre .1 .1 .1 .0) (b .pre .1 .1 .1 .1), b .pre .1 .0 .checked .fewStages, b .pre .1 .0 .checked .fewSegments)
+    omega (arith, node-low (b .pre .1 .0) (b .pre .1 .1 .0) (b .args .least .0) (b .pre .1 .1 .1 .0) (b .pre .1 .1 .1 .1), b .pre .1 .1 .0 .few, b .pre .1 .1 .1 .0, b .pre .1 .0 .checked .fewStages, b .pre .1 .0 .checked .fewSegments)
 
 search-element-write-gathered : (t : ℕ) → search-lts.Need-element-write-gathered (search-claims t) (search-at t) search′.Post search-Inv-loop search-μ-loop
 search-element-write-gathered t c =
     let b = c .before .before .before .before .before .before .before .before .before .before .before .before .before .before .before .before .before .before .before .before .before .before in
-    omega (arith, node-low (b .pre .1 .0) (b .pre .1 .1 .0) (b .args .least .0) (b .pre .1 .1 .1 .0) (b .pre .1 .1 .1 .1), few (b .pre .1 .0) (b .pre .1 .1 .0) (b .args .least .0) (b .pre .1 .1 .1 .0) (b .pre .1 .1 .1 .1), b .pre .1 .0 .checked .fewStages, b .pre .1 .0 .checked .fewSegments)
-
-search-search-requires : (t : ℕ) → search-lts.Need-search-requires (search-claims t) (search-at t) search′.Post search-Inv-loop search-μ-loop
-search-search-requires t c κs =
-    let b = c .before .before .before .before .before .before .before .before .before .before .before .before .before .before .before .before .before .before .before .before .before .before .before .before .before .before in
-    let l = c .before .before .before .before .before .before .before .before .before .loop in
-    let n = c .before .before .before .before .before .before .before .before .before .before .before .before .before .before .before .before .before .before .if1 .left in (
-      omega (arith, rest-low (b .pre .1 .0) (b .pre .1 .1 .0) (b .args .least .0) (b .pre .1 .1 .1 .0) (b .pre .1 .1 .1 .1), b .pre .0, b .pre .1 .1 .1 .0),
-      (
-        b .pre .1 .0,
-        (
-          ready (b .pre .1 .0) (b .pre .1 .1 .0) (b .args .least .0) (b .pre .1 .1 .1 .0) (b .pre .1 .1 .1 .1) (l .inv .0) (c .before .before .before .before .before .before .before .before .loop-test .taken) (c .before .before .before .before .before .before .before .step .result) (c .before .before .before .before .before .before .before .step .ensures) (c .before .before .before .before .before .before .add-delay .result .0) _ (l .gathered) (c .before .before .before .before .before .before .add-delay .ensures .0) refl (l .inv .1),
-          (omega (arith, n), rest-free (b .pre .1 .0) (b .pre .1 .1 .0) (b .args .least .0) (b .pre .1 .1 .1 .0) (b .pre .1 .1 .1 .1) n),
-        ),
-      ),
-    )
+    omega (arith, node-low (b .pre .1 .0) (b .pre .1 .1 .0) (b .args .least .0) (b .pre .1 .1 .1 .0) (b .pre .1 .1 .1 .1), b .pre .1 .1 .0 .few, b .pre .1 .1 .1 .0, b .pre .1 .0 .checked .fewStages, b .pre .1 .0 .checked .fewSegments)
 
 search-add-k : (t : ℕ) → search-lts.Need-add-k (search-claims t) (search-at t) search′.Post search-Inv-loop search-μ-loop
 search-add-k t c =
-    let b = c .before .before .before .before .before .before .before .before .before .before .before .before .before .before .before .before .before .before .before .before .before .before .before .before .before .before .before .before .before .before .before .before .before in
-    let l = c .before .before .before .before .before .before .before .before .before .before .before .before .before .before .before .before .loop in
-    omega (arith, c .before .before .before .before .before .before .before .before .before .before .before .before .before .before .before .loop-test .taken, small (b .pre .1 .0) (b .pre .1 .1 .0) (b .args .least .0) (b .pre .1 .1 .1 .0) (b .pre .1 .1 .1 .1))
+    let b = c .before .before .before .before .before .before .before .before .before .before .before .before .before .before .before .before .before .before .before .before .before .before in
+    omega (arith, c .before .before .before .before .loop-test .taken, small (b .pre .1 .0) (b .pre .1 .1 .0) (b .args .least .0) (b .pre .1 .1 .1 .0) (b .pre .1 .1 .1 .1))
+
+search-last-requires : (t : ℕ) → search-lts.Need-last-requires (search-claims t) (search-at t) search′.Post search-Inv-loop search-μ-loop
+search-last-requires t c κs =
+    let b = c .before .before .before .before .before .before .before .before .before .before .before .before .before .before .before .before .before .before .before .before .before .before .before .before .before .before .before in
+    let l = c .before .before .before .before .before .before .before .before .before .before .loop in
+    let n : at (b .args .skips .now) (b .args .left - 1) ≡ 0 → ⊥ = λ e. omega (arith, b .pre .1 .1 .1 .2) in
+    (b .pre .1 .0, (ready (b .pre .1 .0) (b .pre .1 .1 .0) (b .args .least .0) (b .pre .1 .1 .1 .0) (b .pre .1 .1 .1 .1) (l .inv .0) (c .before .before .before .before .before .before .before .before .before .loop-test .taken) (c .before .before .before .before .before .before .before .before .step .result) (c .before .before .before .before .before .before .before .before .step .ensures) (c .before .before .before .before .before .before .before .add-delay .result .0) _ (l .gathered) (c .before .before .before .before .before .before .before .add-delay .ensures .0) refl (l .inv .1), (b .pre .1 .1 .1 .2, rest-free (b .pre .1 .0) (b .pre .1 .1 .0) (b .args .least .0) (b .pre .1 .1 .1 .0) (b .pre .1 .1 .1 .1) n, c .before .before .before .before .if1 .taken)))
 
 search-loop-less : (t : ℕ) → search-lts.Need-loop-less (search-claims t) (search-at t) search′.Post search-Inv-loop search-μ-loop
-search-loop-less t c = omega (arith, c .before .before .before .before .before .before .before .before .before .before .before .before .before .before .before .loop-test .taken)
+search-loop-less t c = omega (arith, c .before .before .before .before .before .before .before .before .before .before .before .before .before .before .before .before .loop-test .taken)
 
 search-loop-again : (t : ℕ) → search-lts.Need-loop-again (search-claims t) (search-at t) search′.Post search-Inv-loop search-μ-loop
 search-loop-again t c =
-    let b = c .before .before .before .before .before .before .before .before .before .before .before .before .before .before .before .before .before .before .before .before .before .before .before .before .before .before .before .before .before .before .before .before .before in
-    let l = c .before .before .before .before .before .before .before .before .before .before .before .before .before .before .before .before .loop in
+    let b = c .before .before .before .before .before .before .before .before .before .before .before .before .before .before .before .before .before .before .before .before .before .before .before .before .before .before .before .before .before .before .before .before .before .before in
+    let l = c .before .before .before .before .before .before .before .before .before .before .before .before .before .before .before .before .before .loop in
+    let r = c .before .before .before .before .before .before .last in (
+      done (b .pre .1 .0) (b .pre .1 .1 .0) (b .args .least .0) (b .pre .1 .1 .1 .0) (b .pre .1 .1 .1 .1) (l .inv .0) (c .before .before .before .before .before .before .before .before .before .before .before .before .before .before .before .before .loop-test .taken) _ (r .kept .1 .1 .1 .1 .1 .1 .1 .1 .1 .1 .1 .1 .1 .1 .0) (r .kept .1 .1 .1 .1 .1 .1 .1 .1 .1 .1 .1 .1 .1 .1 .1 .0) (r .ensures),
+      λ w. set-set (l .gathered) (at (b .args .ups .now) (b .args .left - 1)) _ w ∙ l .inv .1 w,
+    )
+
+search-search-requires : (t : ℕ) → search-lts.Need-search-requires (search-claims t) (search-at t) search′.Post search-Inv-loop search-μ-loop
+search-search-requires t c κs =
+    let b = c .before .before .before .before .before .before .before .before .before .before .before .before .before .before .before .before .before .before .before .before .before .before .before .before .before .before .before in
+    let l = c .before .before .before .before .before .before .before .before .before .before .loop in
+    let n : at (b .args .skips .now) (b .args .left - 1) ≡ 0 → ⊥ = λ e. omega (arith, b .pre .1 .1 .1 .2) in
+    (omega (arith, rest-low (b .pre .1 .0) (b .pre .1 .1 .0) (b .args .least .0) (b .pre .1 .1 .1 .0) (b .pre .1 .1 .1 .1), b .pre .0, b .pre .1 .1 .1 .0), (b .pre .1 .0, (ready (b .pre .1 .0) (b .pre .1 .1 .0) (b .args .least .0) (b .pre .1 .1 .1 .0) (b .pre .1 .1 .1 .1) (l .inv .0) (c .before .before .before .before .before .before .before .before .before .loop-test .taken) (c .before .before .before .before .before .before .before .before .step .result) (c .before .before .before .before .before .before .before .before .step .ensures) (c .before .before .before .before .before .before .before .add-delay .result .0) _ (l .gathered) (c .before .before .before .before .before .before .before .add-delay .ensures .0) refl (l .inv .1), (b .pre .1 .1 .1 .2, rest-free (b .pre .1 .0) (b .pre .1 .1 .0) (b .args .least .0) (b .pre .1 .1 .1 .0) (b .pre .1 .1 .1 .1) n, omega (arith, c .before .before .before .before .if1 .left)))))
+
+search-loop-less-2 : (t : ℕ) → search-lts.Need-loop-less-2 (search-claims t) (search-at t) search′.Post search-Inv-loop search-μ-loop
+search-loop-less-2 t c = omega (arith, c .before .before .before .before .before .before .before .before .before .before .before .before .before .before .before .before .loop-test .taken)
+
+search-loop-again-2 : (t : ℕ) → search-lts.Need-loop-again-2 (search-claims t) (search-at t) search′.Post search-Inv-loop search-μ-loop
+search-loop-again-2 t c =
+    let b = c .before .before .before .before .before .before .before .before .before .before .before .before .before .before .before .before .before .before .before .before .before .before .before .before .before .before .before .before .before .before .before .before .before .before in
+    let l = c .before .before .before .before .before .before .before .before .before .before .before .before .before .before .before .before .before .loop in
     let r = c .before .before .before .before .before .before .search in (
-      done (b .pre .1 .0) (b .pre .1 .1 .0) (b .args .least .0) (b .pre .1 .1 .1 .0) (b .pre .1 .1 .1 .1) (l .inv .0) (c .before .before .before .before .before .before .before .before .before .before .before .before .before .before .before .loop-test .taken) _ (r .kept .1 .1 .1 .1 .1 .1 .1 .1 .1 .1 .1 .1 .1 .1 .0) (r .kept .1 .1 .1 .1 .1 .1 .1 .1 .1 .1 .1 .1 .1 .1 .1 .0) (r .ensures),
+      done (b .pre .1 .0) (b .pre .1 .1 .0) (b .args .least .0) (b .pre .1 .1 .1 .0) (b .pre .1 .1 .1 .1) (l .inv .0) (c .before .before .before .before .before .before .before .before .before .before .before .before .before .before .before .before .loop-test .taken) _ (r .kept .1 .1 .1 .1 .1 .1 .1 .1 .1 .1 .1 .1 .1 .1 .0) (r .kept .1 .1 .1 .1 .1 .1 .1 .1 .1 .1 .1 .1 .1 .1 .1 .0) (r .ensures),
       λ w. ap (λ (g : List ℕ). set g (at (b .args .ups .now) (b .args .left - 1)) w) (r .ensures .gathers) ∙ set-set (l .gathered) (at (b .args .ups .now) (b .args .left - 1)) _ w ∙ l .inv .1 w,
     )
 
 search-mul-gathered-2 : (t : ℕ) → search-lts.Need-mul-gathered-2 (search-claims t) (search-at t) search′.Post search-Inv-loop search-μ-loop
 search-mul-gathered-2 t c =
     let b = c .before .before .before .before .before .before .before .before .before .before .before .before .before .before .before .before .before .before in
-    omega (arith, node-low (b .pre .1 .0) (b .pre .1 .1 .0) (b .args .least .0) (b .pre .1 .1 .1 .0) (b .pre .1 .1 .1 .1), few (b .pre .1 .0) (b .pre .1 .1 .0) (b .args .least .0) (b .pre .1 .1 .1 .0) (b .pre .1 .1 .1 .1), b .pre .1 .0 .checked .fewStages, b .pre .1 .0 .checked .fewSegments)
+    omega (arith, node-low (b .pre .1 .0) (b .pre .1 .1 .0) (b .args .least .0) (b .pre .1 .1 .1 .0) (b .pre .1 .1 .1 .1), b .pre .1 .1 .0 .few, b .pre .1 .1 .1 .0, b .pre .1 .0 .checked .fewStages, b .pre .1 .0 .checked .fewSegments)
 
 search-element-write-gathered-2 : (t : ℕ) → search-lts.Need-element-write-gathered-2 (search-claims t) (search-at t) search′.Post search-Inv-loop search-μ-loop
 search-element-write-gathered-2 t c =
     let b = c .before .before .before .before .before .before .before .before .before .before .before .before .before .before .before .before .before .before in
-    omega (arith, node-low (b .pre .1 .0) (b .pre .1 .1 .0) (b .args .least .0) (b .pre .1 .1 .1 .0) (b .pre .1 .1 .1 .1), few (b .pre .1 .0) (b .pre .1 .1 .0) (b .args .least .0) (b .pre .1 .1 .1 .0) (b .pre .1 .1 .1 .1), b .pre .1 .0 .checked .fewStages, b .pre .1 .0 .checked .fewSegments)
+    omega (arith, node-low (b .pre .1 .0) (b .pre .1 .1 .0) (b .args .least .0) (b .pre .1 .1 .1 .0) (b .pre .1 .1 .1 .1), b .pre .1 .1 .0 .few, b .pre .1 .1 .1 .0, b .pre .1 .0 .checked .fewStages, b .pre .1 .0 .checked .fewSegments)
 
-search-same-length-4 : (t : ℕ) → search-lts.Need-same-length-4 (search-claims t) (search-at t) search′.Post search-Inv-loop search-μ-loop
-search-same-length-4 t c =
+search-same-length : (t : ℕ) → search-lts.Need-same-length (search-claims t) (search-at t) search′.Post search-Inv-loop search-μ-loop
+search-same-length t c =
     let b = c .before .before .before .before .before .before .before .before .before .before .before .before .before .before .before .before .before .before in
     let l = c .before .loop in
     allowed-long (netBy (b .args .counts) (b .args .job .now)) (l .x) (l .inv .0 .allowed) ∙ sym (allowed-long (netBy (b .args .counts) (b .args .job .now)) (b .args .x .now) (b .pre .1 .1 .0 .allowed))
 
-search-same-length-5 : (t : ℕ) → search-lts.Need-same-length-5 (search-claims t) (search-at t) search′.Post search-Inv-loop search-μ-loop
-search-same-length-5 t c =
+search-same-length-2 : (t : ℕ) → search-lts.Need-same-length-2 (search-claims t) (search-at t) search′.Post search-Inv-loop search-μ-loop
+search-same-length-2 t c =
     let b = c .before .before .before .before .before .before .before .before .before .before .before .before .before .before .before .before .before .before in
     let l = c .before .loop in
     l .inv .0 .leanLong ∙ sym (b .pre .1 .1 .0 .leanLong)
 
-search-same-length-6 : (t : ℕ) → search-lts.Need-same-length-6 (search-claims t) (search-at t) search′.Post search-Inv-loop search-μ-loop
-search-same-length-6 t c =
+search-same-length-3 : (t : ℕ) → search-lts.Need-same-length-3 (search-claims t) (search-at t) search′.Post search-Inv-loop search-μ-loop
+search-same-length-3 t c =
     let b = c .before .before .before .before .before .before .before .before .before .before .before .before .before .before .before .before .before .before in
     let l = c .before .loop in
     l .inv .0 .wideLong ∙ sym (b .pre .1 .1 .0 .wideLong)
 
-search-returns-2 : (t : ℕ) → search-lts.Need-returns-2 (search-claims t) (search-at t) search′.Post search-Inv-loop search-μ-loop
-search-returns-2 t c =
+search-returns : (t : ℕ) → search-lts.Need-returns (search-claims t) (search-at t) search′.Post search-Inv-loop search-μ-loop
+search-returns t c =
     let b = c .before .before .before .before .before .before .before .before .before .before .before .before .before .before .before .before .before .before in
     let l = c .before .loop in
     ended (b .pre .1 .0) (b .pre .1 .1 .0) (b .args .least .0) (b .pre .1 .1 .1 .0) (b .pre .1 .1 .1 .1) _ (l .inv .0) (c .loop-test .left) (l .inv .1 (at (b .args .gathered .now) (at (b .args .ups .now) (b .args .left - 1))) ∙ set-getD (b .args .gathered .now) (at (b .args .ups .now) (b .args .left - 1)) 0)
@@ -278,11 +286,9 @@ pub +search-spec : {M : Type 1} → statement M
     (search-sub-p t)
     (search-mul-rest t)
     (search-element-copy-out-rest t)
-    (search-last-requires t)
-    (search-same-length t)
-    (search-same-length-2 t)
-    (search-same-length-3 t)
-    (search-returns t)
+    (search-sub-further t)
+    (search-mul-further t)
+    (search-element-copy-out-further t)
     (search-mul-weight t)
     (search-element-copy-out-weight t)
     (search-mul-others t)
@@ -306,13 +312,16 @@ pub +search-spec : {M : Type 1} → statement M
     (search-add-gathered t)
     (search-mul-gathered t)
     (search-element-write-gathered t)
-    (search-search-requires t)
     (search-add-k t)
+    (search-last-requires t)
     (search-loop-less t)
     (search-loop-again t)
+    (search-search-requires t)
+    (search-loop-less-2 t)
+    (search-loop-again-2 t)
     (search-mul-gathered-2 t)
     (search-element-write-gathered-2 t)
-    (search-same-length-4 t)
-    (search-same-length-5 t)
-    (search-same-length-6 t)
-    (search-returns-2 t)
+    (search-same-length t)
+    (search-same-length-2 t)
+    (search-same-length-3 t)
+    (search-returns t)

@@ -1,7 +1,7 @@
--- `search::start` meets its contract: one sizing where no place is free, else the search from the last free place.
+-- `search::start` meets its contract: one sizing where no place is free, else the search from the last free place on.
 use Rattle.search.proofs.Starting.{start-sized, start-found, start-one}
 use Rattle.net.proofs.Questions.{allowed-long}
-use Rattle.search.proofs.Tables.{skip-free}
+use Rattle.search.proofs.Tables.{skip-le, skip-free}
 use Rattle.net.specs.Net.{netBy}
 use Rattle.envelope.specs.Kept.{found}
 use lib.ListN.{length}
@@ -15,6 +15,7 @@ use Rattle.search.proofs.start.Reads as reads
 use Rattle.search.proofs.start.Lts as lts
 use Rattle.envelope.proofs.keep.Reads as keep-reads
 use Rattle.search.proofs.fixed_delay.Reads as fixed-delay-reads
+use Rattle.search.proofs.last.Reads as last-reads
 use Rattle.search.proofs.search.Reads as search-reads
 
 fixed-delay-requires : tie.Need-fixed-delay-requires
@@ -51,14 +52,27 @@ returns c =
     let b = c .before .before .before .before .before .before .before .before .before .before .before .before .before .before .before .before .before .before in
     start-one (b .pre .0) (c .before .before .before .before .before .before .before .before .before .before .before .fixed-delay .result .0) (found (b .args .least .0) (b .args .lean .now) (b .args .wide .now)) (b .pre .1 .0) (c .before .before .before .before .before .before .before .before .before .before .before .fixed-delay .ensures) (c .before .before .before .before .before .before .before .before .if1 .taken) (c .before .before .before .before .keep .ensures)
 
-search-requires : tie.Need-search-requires
-search-requires c κs =
-    let b = c .before .before .before .before .before .before .before .before .before .before .before .before .before .before in
-    let n = c .before .before .before .before .if1 .left in (
+sub-if2 : tie.Need-sub-if2
+sub-if2 c = search needs
+
+mul-if2 : tie.Need-mul-if2
+mul-if2 c =
+    let b = c .before .before .before .before .before .before .before .before .before .before in
+    omega (arith, skip-le (b .args .lower .now) (b .args .upper .now) (b .args .counts .stages + b .args .counts .segments) (b .args .skips .now) (b .pre .0 .skipped) (b .args .counts .stages + b .args .counts .segments) (omega arith), b .pre .0 .checked .fewStages, b .pre .0 .checked .fewSegments)
+
+element-copy-out-if2 : tie.Need-element-copy-out-if2
+element-copy-out-if2 c =
+    let b = c .before .before .before .before .before .before .before .before .before .before in
+    omega (arith, skip-le (b .args .lower .now) (b .args .upper .now) (b .args .counts .stages + b .args .counts .segments) (b .args .skips .now) (b .pre .0 .skipped) (b .args .counts .stages + b .args .counts .segments) (omega arith), b .pre .0 .checked .fewStages, b .pre .0 .checked .fewSegments)
+
+last-requires : tie.Need-last-requires
+last-requires c κs =
+    let b = c .before .before .before .before .before .before .before .before .before .before .before .before .before .before .before .before in
+    let n = c .before .before .before .before .before .before .if1 .left in (
       b .pre .0,
       (
-        start-sized (b .pre .0) (c .before .before .before .before .before .before .before .fixed-delay .result .0) (b .pre .1 .0) (c .before .before .before .before .before .before .before .fixed-delay .ensures) (b .pre .1 .1 .0) (b .pre .1 .1 .1),
-        (omega (arith, n), skip-free (b .args .lower .now) (b .args .upper .now) (b .args .counts .stages + b .args .counts .segments) (b .args .skips .now) (b .pre .0 .skipped) (b .args .counts .stages + b .args .counts .segments) (omega arith) n),
+        start-sized (b .pre .0) (c .before .before .before .before .before .before .before .before .before .fixed-delay .result .0) (b .pre .1 .0) (c .before .before .before .before .before .before .before .before .before .fixed-delay .ensures) (b .pre .1 .1 .0) (b .pre .1 .1 .1),
+        (omega (arith, n), skip-free (b .args .lower .now) (b .args .upper .now) (b .args .counts .stages + b .args .counts .segments) (b .args .skips .now) (b .pre .0 .skipped) (b .args .counts .stages + b .args .counts .segments) (omega arith) n, c .before .before .before .before .if2 .taken),
       ),
     )
 
@@ -73,7 +87,32 @@ same-length-6 c = search needs
 
 returns-2 : tie.Need-returns-2
 returns-2 c =
-    let b = c .before .before .before .before .before .before .before .before .before .before .before .before .before .before .before .before .before .before .before .before .before in
+    let b = c .before .before .before .before .before .before .before .before .before .before .before .before .before .before .before .before .before .before .before .before .before .before .before in
+    start-found (b .pre .0) (b .pre .1 .0) (c .before .before .before .before .before .before .last .ensures)
+
+search-requires : tie.Need-search-requires
+search-requires c κs =
+    let b = c .before .before .before .before .before .before .before .before .before .before .before .before .before .before .before .before in
+    let n = c .before .before .before .before .before .before .if1 .left in (
+      b .pre .0,
+      (
+        start-sized (b .pre .0) (c .before .before .before .before .before .before .before .before .before .fixed-delay .result .0) (b .pre .1 .0) (c .before .before .before .before .before .before .before .before .before .fixed-delay .ensures) (b .pre .1 .1 .0) (b .pre .1 .1 .1),
+        (omega (arith, n), skip-free (b .args .lower .now) (b .args .upper .now) (b .args .counts .stages + b .args .counts .segments) (b .args .skips .now) (b .pre .0 .skipped) (b .args .counts .stages + b .args .counts .segments) (omega arith) n, omega (arith, c .before .before .before .before .if2 .left)),
+      ),
+    )
+
+same-length-7 : tie.Need-same-length-7
+same-length-7 c = search needs
+
+same-length-8 : tie.Need-same-length-8
+same-length-8 c = search needs
+
+same-length-9 : tie.Need-same-length-9
+same-length-9 c = search needs
+
+returns-3 : tie.Need-returns-3
+returns-3 c =
+    let b = c .before .before .before .before .before .before .before .before .before .before .before .before .before .before .before .before .before .before .before .before .before .before .before in
     start-found (b .pre .0) (b .pre .1 .0) (c .before .before .before .before .before .before .search .ensures)
 
 pub start-spec : {M : Type 1} → statement M
@@ -89,8 +128,16 @@ start-spec =
     same-length-2
     same-length-3
     returns
-    search-requires
+    sub-if2
+    mul-if2
+    element-copy-out-if2
+    last-requires
     same-length-4
     same-length-5
     same-length-6
-    returns-2)
+    returns-2
+    search-requires
+    same-length-7
+    same-length-8
+    same-length-9
+    returns-3)
