@@ -1,8 +1,8 @@
 -- What the calls of the search ask, from its own state at the free place before `left`.
-use mathlib.Core.Path.{_≡_, ap, _∙_}
+use mathlib.Core.Path.{_≡_, refl, ap, _∙_}
 use mathlib.Core.Bool.{Bool, true, false, cond}
 use mathlib.Core.List.{List}
-use Prim.Native.Nat.{ℕ, suc, _+_, _*_, _-_, _^_, _≤_, _<_}
+use Prim.Native.Nat.{ℕ, zero, suc, _+_, _*_, _-_, _^_, _≤_, _<_}
 use native.Mathlib.Nat.{mul-le-mul-right}
 use native.Mathlib.Numerals.{add-one}
 use native.Mathlib.Omega.{arith}
@@ -23,10 +23,10 @@ use Rattle.place.proofs.Upstream.{upstream-most}
 use Rattle.place.proofs.Driving.{driven-small, load-most as place-load-most}
 use Rattle.place.proofs.Gathering.{gathered-small}
 use Rattle.envelope.specs.Kept.{found}
-use Rattle.search.specs.Searching.{freeLoad, Prepared, Sized, Searched}
+use Rattle.search.specs.Searching.{freeLoad, Prepared, Sized, Searched, stepDelay, PassedTo}
 use Rattle.search.proofs.Apart.{ups-fall}
 use Rattle.search.proofs.Tables.{skip-le, skip-free}
-use Rattle.search.proofs.Turns.{Turning, load-is, turning-start, highs, reached-fits, complete, turn-ready, turn-done, taken-done, passed-done, turning-end}
+use Rattle.search.proofs.Turns.{Standing, Turning, stands, load-is, turning-start, highs, reached-fits, complete, turn-ready, turn-done, taken-done, passed-done, turning-end}
 
 module _ {c : Counts} {job weights upstream driven ups skips lower upper : List ℕ} (r : Prepared c job weights upstream driven ups skips lower upper)
     {left added : ℕ} {x gathered lean wide : List ℕ} (s : Sized (netBy c job) lower upper upstream driven ups left added x gathered lean wide) (least : ℕ)
@@ -100,10 +100,48 @@ module _ {c : Counts} {job weights upstream driven ups skips lower upper : List 
   pub begin : Turning (netBy c job) lower upper (left - 1) x (found least lean wide) x (at lower (left - 1)) (found least lean wide)
   begin = turning-start r (left - 1) few frees (found least lean wide) start
 
+  -- x at the index k of the place
+  standing : (k : ℕ) → at lower (left - 1) ≤ k → Standing (netBy c job) lower upper (left - 1) x x k
+  standing k l = record { allowed = s .allowed; held = s .held; same = λ q h m. refl; low = l }
+
+  abbrev reached : ℕ → ℕ
+  reached k = added + stepDelay (netBy c job) (at weights (left - 1)) (at upstream (left - 1)) (left - 1) (at driven (left - 1) + at gathered (left - 1 + 1)) k
+
+  reached-value : (k : ℕ) → reached k
+      ≡ added + (placeWeight (netBy c job) (left - 1) * delayAt (netBy c job) (left - 1) k (drivenLoad (netBy c job) x (left - 1))
+      + at upstream (left - 1) * loadAt (netBy c job) (left - 1) k (drivenLoad (netBy c job) x (left - 1)))
+  reached-value k = rw (weight-value, load-value)
+
+  -- every index of the place gives a delay that fits
+  pub all-fit : (k : ℕ) → at lower (left - 1) ≤ k → k ≤ at upper (left - 1)
+      → added + stepDelay (netBy c job) (at weights (left - 1)) (at upstream (left - 1)) (left - 1) (at driven (left - 1) + at gathered (left - 1 + 1)) k < 2 ^ 63
+  all-fit k l h = reached-fits r (left - 1) few frees (found least lean wide) start (standing k l) h (reached k) (reached-value k)
+
+  pub top-high : at upper (left - 1) ≤ netBy c job .highest (left - 1)
+  top-high = allowed-iff (netBy c job) upper .0 (r .upperAllowed) .high (left - 1) few
+
+  -- the indices that are passed over are done with
+  pub passed-to : at skips (left - 1) ≡ 0 → (k : ℕ)
+      → PassedTo (netBy c job) (at weights (left - 1)) (at upstream (left - 1)) (left - 1) (at driven (left - 1) + at gathered (left - 1 + 1)) added least (at lower (left - 1)) (at upper (left - 1)) k
+      → Turning (netBy c job) lower upper (left - 1) x (found least lean wide) x k (found least lean wide)
+  passed-to z k p = let e : at lower (left - 1) + (k - at lower (left - 1)) ≡ k = omega (arith, p .from) in rw e at (go (k - at lower (left - 1)) (omega (arith, p .from)))
+    where
+      go : (d : ℕ) → at lower (left - 1) + d ≤ k → Turning (netBy c job) lower upper (left - 1) x (found least lean wide) x (at lower (left - 1) + d) (found least lean wide)
+      go zero h = let e : at lower (left - 1) + 0 ≡ at lower (left - 1) = omega arith in rw e begin
+      go (suc d) h =
+          let e : at lower (left - 1) + suc d ≡ at lower (left - 1) + d + 1 = omega arith in
+          let inside : at lower (left - 1) + d ≤ at upper (left - 1) = omega (arith, p .within) in
+          rw e (passed-done r (left - 1) few frees (found least lean wide) start (go d (omega arith)) inside z
+          (omega (
+            arith,
+            p .above (at lower (left - 1) + d) (omega arith) (omega arith),
+            complete r (left - 1) few frees (found least lean wide) start (standing (at lower (left - 1) + d) (omega arith)) inside (reached (at lower (left - 1) + d)) (reached-value (at lower (left - 1) + d)) z,
+          )))
+
   -- the loop at the index k of y, and what was found
   module _ {y : List ℕ} {k : ℕ} {f : Found} (t : Turning (netBy c job) lower upper (left - 1) x (found least lean wide) y k f) (inside : k ≤ at upper (left - 1)) where
     pub high : k ≤ netBy c job .highest (left - 1)
-    high = highs r (left - 1) few frees (found least lean wide) start t inside
+    high = highs r (left - 1) few frees (found least lean wide) start (stands t) inside
 
     module _ (step : PlaceStep) (of : StepOf (netBy c job) (at weights (left - 1)) (at upstream (left - 1)) (left - 1) k (at driven (left - 1) + at gathered (left - 1 + 1)) step) where
       step-delay : added + step .delay .0
@@ -119,7 +157,7 @@ module _ {c : Counts} {job weights upstream driven ups skips lower upper : List 
           (driven-small (netBy c job) (ordered (r .checked)) (limited (r .checked)) x (s .allowed) (left - 1) few))
 
       pub fits : added + step .delay .0 < 2 ^ 63
-      fits = reached-fits r (left - 1) few frees (found least lean wide) start t inside (added + step .delay .0) step-delay
+      fits = reached-fits r (left - 1) few frees (found least lean wide) start (stands t) inside (added + step .delay .0) step-delay
 
       -- the recursive call
       pub ready : (d v : ℕ) (gathered′ : List ℕ) → d ≡ added + step .delay .0 → v ≡ at gathered (at ups (left - 1)) + step .load .0
@@ -130,7 +168,7 @@ module _ {c : Counts} {job weights upstream driven ups skips lower upper : List 
 
       -- the sizing is complete
       pub whole : at skips (left - 1) ≡ 0 → (d : ℕ) → d ≡ added + step .delay .0 → d ≡ delay (netBy c job) (set y (left - 1) k)
-      whole z d e = complete r (left - 1) few frees (found least lean wide) start t inside d (e ∙ step-delay) z
+      whole z d e = complete r (left - 1) few frees (found least lean wide) start (stands t) inside d (e ∙ step-delay) z
 
       pub taken : at skips (left - 1) ≡ 0 → (d : ℕ) → d ≡ added + step .delay .0 → (f′ : Found) → length (f′ .lean) ≡ length (f .lean) → length (f′ .wide) ≡ length (f .wide)
           → f′ ≡ take (set y (left - 1) k) d f → Turning (netBy c job) lower upper (left - 1) x (found least lean wide) (set y (left - 1) k) (k + 1) f′

@@ -12,7 +12,7 @@ use Rattle.net.specs.declared.Counts.{Counts}
 use Rattle.net.specs.Net.{Net, places, netBy}
 use Rattle.net.specs.Delay.{delay}
 use Rattle.net.specs.Sizings.{allowed}
-use Rattle.net.specs.Places.{placeWeight, delayAt, placeDelay, placeLoad}
+use Rattle.net.specs.Places.{placeWeight, delayAt, loadAt, placeDelay, placeLoad}
 use Rattle.net.specs.Checked.{Checked}
 use Rattle.place.specs.Partial.{WeightsFrom}
 use Rattle.place.specs.Held.{BeforeTo, sumAfter, free, GatheredFrom, DrivenFrom, UpstreamTo}
@@ -82,3 +82,13 @@ pub record Searched (net : Net) (lower upper : List ℕ) (left : ℕ) (x gathere
   pub held : (q : ℕ) → q < places net → free lower upper q ≡ false → at x′ q ≡ at lower q
   pub same : (q : ℕ) → left ≤ q → q < places net → at x′ q ≡ at x q
   pub gathers : gathered′ ≡ gathered
+
+-- What the step of place p to the index k adds to the delay, where it has the weight w, the weighted resistance u upstream and drives the load l.
+abbrev pub stepDelay : Net → ℕ → ℕ → ℕ → ℕ → ℕ → ℕ
+stepDelay net w u p l k = w * delayAt net p k l + u * loadAt net p k l
+
+-- From `low` on every index before k gives a delay above `least`, and k is at most one past `top`.
+pub record PassedTo (net : Net) (w u p l added least low top k : ℕ) : Type 0 where
+  pub from : low ≤ k
+  pub within : k ≤ suc top
+  pub above : (j : ℕ) → low ≤ j → j < k → least < added + stepDelay net w u p l j

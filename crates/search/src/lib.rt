@@ -5,7 +5,7 @@ use quantity::Capacitance;
 use quantity::Delay;
 use quantity::Resistance;
 ghost use mathlib.Core.Path.{_≡_};
-ghost use Prim.Native.Nat.{_+_, _-_, _<_, _≤_};
+ghost use Prim.Native.Nat.{ℕ, _+_, _-_, _^_, _<_, _≤_};
 ghost use mathlib.Core.Bool.{true};
 ghost use lib.ListN.{length};
 ghost use Rattle.lattice.specs.Lists.{at};
@@ -18,7 +18,7 @@ ghost use Rattle.net.specs.Sizings.{allowed};
 ghost use Rattle.net.specs.Checked.{Checked};
 ghost use Rattle.place.specs.Partial.{WeightsFrom};
 ghost use Rattle.place.specs.Held.{hangsAt, before, free, DrivenFrom};
-ghost use Rattle.search.specs.Searching.{arrives, UpsTo, SkipsTo, fixedFrom, Bounds, Prepared, Sized, Searched};
+ghost use Rattle.search.specs.Searching.{arrives, UpsTo, SkipsTo, fixedFrom, Bounds, Prepared, Sized, Searched, stepDelay, PassedTo};
 
 // The node at which a load at `node` arrives, through the held segments above it.
 fn arrival(
@@ -110,6 +110,85 @@ fn fixed_delay(
     sum
 }
 
+// The first index of place p from `low` on that gives a delay of at most `least`, or the one past `top`. It writes nothing, so that most indices of
+// a search are passed over fast.
+fn pass_over(
+    job: &[u8],
+    counts: Counts,
+    weight: u64,
+    before: Resistance,
+    p: usize,
+    load: Capacitance,
+    added: Delay,
+    least: Delay,
+    low: u8,
+    top: u8,
+) -> u8
+    requires { ⌜ Checked counts (now job) ⌝ }
+    requires { ⌜ (p < counts .stages + counts .segments) × (top ≤ netBy counts (now job) .highest p) × (weight ≤ 32640) × (before .0 ≤ 443904000000) × (load .0 ≤ 12900000) ⌝ }
+    requires { ⌜ (low ≤ top) × (top < 16) ⌝ }
+    requires { ⌜ ((k : ℕ) → low ≤ k → k ≤ top → added .0 + stepDelay (netBy counts (now job)) weight (before .0) p (load .0) k < 2 ^ 63) ⌝ }
+    ensures { λ r. ⌜ PassedTo (netBy counts (now (job .entry))) weight (before .0) p (load .0) (added .0) (least .0) low top r ⌝ }
+{
+    let mut k = low;
+    while k <= top {
+        let step = place::step(job, counts, weight, before, p, k, load);
+        let reached = quantity::add_delay(added, step.delay);
+        if reached.0 <= least.0 {
+            return k;
+        }
+        k += 1;
+    }
+    k
+}
+
+// Takes every sizing that has the indices of x but at the place before `left`, the last one that is free; those before the index `start` there
+// have a larger delay than `least`.
+fn take_from(
+    job: &[u8],
+    counts: Counts,
+    weights: &[u64; 68],
+    upstream: &[u64; 68],
+    driven: &[u64; 68],
+    ups: &[usize; 68],
+    skips: &[usize; 69],
+    lower: &[u8],
+    upper: &[u8],
+    left: usize,
+    start: u8,
+    added: Delay,
+    x: &mut [u8],
+    gathered: &[u64; 69],
+    least: Delay,
+    lean: &mut [u8],
+    wide: &mut [u8],
+) -> Delay
+    requires { ⌜ Prepared counts (now job) (now weights) (now upstream) (now driven) (now ups) (now skips) (now lower) (now upper) ⌝ }
+    requires { ⌜ Sized (netBy counts (now job)) (now lower) (now upper) (now upstream) (now driven) (now ups) left (added .0) (now x) (now gathered) (now lean) (now wide) ⌝ }
+    requires { ⌜ (0 < left) × (free (now lower) (now upper) (left - 1) ≡ true) × (at (now skips) (left - 1) ≡ 0) ⌝ }
+    requires { ⌜ PassedTo (netBy counts (now job)) (at (now weights) (left - 1)) (at (now upstream) (left - 1)) (left - 1) (at (now driven) (left - 1) + at (now gathered) (left - 1 + 1)) (added .0) (least .0) (at (now lower) (left - 1)) (at (now upper) (left - 1)) start ⌝ }
+    ensures { λ r. ⌜ Searched (netBy counts (now (job .entry))) (now (lower .entry)) (now (upper .entry)) left (now (x .entry)) (now (gathered .entry)) (found (least .0) (now (lean .entry)) (now (wide .entry))) (now (x .exit)) (now (gathered .entry)) (found (r .0) (now (lean .exit)) (now (wide .exit))) ⌝ }
+{
+    let p = left - 1;
+    let weight = weights[p];
+    let before = Resistance(upstream[p]);
+    let load = Capacitance(driven[p] + gathered[p + 1]);
+    let top = upper[p];
+    let mut k = start;
+    let mut best = least;
+    while k <= top {
+        let index = k;
+        let step = place::step(job, counts, weight, before, p, index, load);
+        let reached = quantity::add_delay(added, step.delay);
+        k += 1;
+        if reached.0 <= best.0 {
+            x[p] = index;
+            best = envelope::keep(x, reached, best, lean, wide);
+        }
+    }
+    best
+}
+
 // Takes every sizing that has the indices of x but at the place before `left`, the last one that is free.
 fn last(
     job: &[u8],
@@ -139,19 +218,40 @@ fn last(
     let before = Resistance(upstream[p]);
     let load = Capacitance(driven[p] + gathered[p + 1]);
     let top = upper[p];
-    let mut k = lower[p];
-    let mut best = least;
-    while k <= top {
-        let index = k;
-        let step = place::step(job, counts, weight, before, p, index, load);
-        let reached = quantity::add_delay(added, step.delay);
-        k += 1;
-        if reached.0 <= best.0 {
-            x[p] = index;
-            best = envelope::keep(x, reached, best, lean, wide);
-        }
+    let start = pass_over(
+        job,
+        counts,
+        weight,
+        before,
+        p,
+        load,
+        added,
+        least,
+        lower[p],
+        top,
+    );
+    if start > top {
+        return least;
     }
-    best
+    take_from(
+        job,
+        counts,
+        weights,
+        upstream,
+        driven,
+        ups,
+        skips,
+        lower,
+        upper,
+        left,
+        start,
+        added,
+        x,
+        gathered,
+        least,
+        lean,
+        wide,
+    )
 }
 
 // Takes every sizing that has the indices of x from `left` on and lies between the bounds before it, where the place before `left` is free and

@@ -1,202 +1,136 @@
--- `search::last` meets its contract: the loop has the sizings with the indices passed.
+-- `search::last` meets its contract: the indices that are passed over change nothing, the others are taken.
 use Rattle.net.proofs.Questions.{allowed-long}
-use Rattle.search.proofs.Calls.{few, load-most, weight-most, resistance-most, small, begin, high, fits, taken, passed, ended}
-use Rattle.search.proofs.Turns.{Turning}
-use Rattle.envelope.specs.Kept.{found}
+use Rattle.search.proofs.Calls.{few, load-most, weight-most, resistance-most, small, top-high, all-fit, passed-to, ended}
 use Rattle.net.specs.Net.{netBy}
-use lib.ListN.{length-set}
 use native.Mathlib.Omega.{arith}
-use Prim.Native.Nat.{suc, _-_}
-use mathlib.Core.Path.{refl, sym, _∙_}
+use Prim.Native.Nat.{_-_}
+use mathlib.Core.Path.{refl}
+use borrow.Author.Needs.{needs}
 use Rattle.search.proofs.last.Statement.{statement}
 use Rattle.search.proofs.last.Tie as tie
 use Rattle.search.proofs.last.Reads as reads
 use Rattle.search.proofs.last.Lts as lts
-use Rattle.envelope.proofs.keep.Reads as keep-reads
-use Rattle.place.proofs.step.Reads as step-reads
-use Rattle.quantity.proofs.add_delay.Reads as add-delay-reads
+use Rattle.search.proofs.pass_over.Reads as pass-over-reads
+use Rattle.search.proofs.take_from.Reads as take-from-reads
 
-abbrev Inv-loop : tie.InvT-loop
-Inv-loop job counts weights upstream driven ups skips lower upper left added x₀ gathered lean₀ wide₀ p weight before load top k₀ best₀ x lean wide k best =
-    Turning (netBy counts job) lower upper p x₀ (found (best₀ .0) lean₀ wide₀) x k (found (best .0) lean wide)
-
-abbrev μ-loop : tie.MeasureT-loop
-μ-loop job counts weights upstream driven ups skips lower upper left added x₀ gathered lean₀ wide₀ p weight before load top k₀ best₀ x lean wide k best = suc top - k
-
-sub-p : tie.Need-sub-p Inv-loop μ-loop
+sub-p : tie.Need-sub-p
 sub-p c =
     let b = c .before .before .before .before .before .before in
     omega (arith, b .pre .1 .1 .0)
 
-mul-weight : tie.Need-mul-weight Inv-loop μ-loop
+mul-weight : tie.Need-mul-weight
 mul-weight c =
     let b = c .before .before .before .before .before .before in
-    omega (arith, few (b .pre .0) (b .pre .1 .0) (b .args .least .0) (b .pre .1 .1 .0) (b .pre .1 .1 .1), b .pre .0 .checked .fewStages, b .pre .0 .checked .fewSegments)
+    omega (arith, b .pre .1 .0 .few, b .pre .1 .1 .0, b .pre .0 .checked .fewStages, b .pre .0 .checked .fewSegments)
 
-element-copy-out-weight : tie.Need-element-copy-out-weight Inv-loop μ-loop
+element-copy-out-weight : tie.Need-element-copy-out-weight
 element-copy-out-weight c =
     let b = c .before .before .before .before .before .before in
-    omega (arith, few (b .pre .0) (b .pre .1 .0) (b .args .least .0) (b .pre .1 .1 .0) (b .pre .1 .1 .1), b .pre .0 .checked .fewStages, b .pre .0 .checked .fewSegments)
+    omega (arith, b .pre .1 .0 .few, b .pre .1 .1 .0, b .pre .0 .checked .fewStages, b .pre .0 .checked .fewSegments)
 
-mul-t27 : tie.Need-mul-t27 Inv-loop μ-loop
-mul-t27 c =
+mul-t23 : tie.Need-mul-t23
+mul-t23 c =
     let b = c .before .before .before .before .before .before .before in
-    omega (arith, few (b .pre .0) (b .pre .1 .0) (b .args .least .0) (b .pre .1 .1 .0) (b .pre .1 .1 .1), b .pre .0 .checked .fewStages, b .pre .0 .checked .fewSegments)
+    omega (arith, b .pre .1 .0 .few, b .pre .1 .1 .0, b .pre .0 .checked .fewStages, b .pre .0 .checked .fewSegments)
 
-element-copy-out-t30 : tie.Need-element-copy-out-t30 Inv-loop μ-loop
-element-copy-out-t30 c =
+element-copy-out-t26 : tie.Need-element-copy-out-t26
+element-copy-out-t26 c =
     let b = c .before .before .before .before .before .before .before in
-    omega (arith, few (b .pre .0) (b .pre .1 .0) (b .args .least .0) (b .pre .1 .1 .0) (b .pre .1 .1 .1), b .pre .0 .checked .fewStages, b .pre .0 .checked .fewSegments)
+    omega (arith, b .pre .1 .0 .few, b .pre .1 .1 .0, b .pre .0 .checked .fewStages, b .pre .0 .checked .fewSegments)
 
-mul-t27-2 : tie.Need-mul-t27-2 Inv-loop μ-loop
-mul-t27-2 c =
+mul-t23-2 : tie.Need-mul-t23-2
+mul-t23-2 c =
     let b = c .before .before .before .before .before .before .before .before in
-    omega (arith, few (b .pre .0) (b .pre .1 .0) (b .args .least .0) (b .pre .1 .1 .0) (b .pre .1 .1 .1), b .pre .0 .checked .fewStages, b .pre .0 .checked .fewSegments)
+    omega (arith, b .pre .1 .0 .few, b .pre .1 .1 .0, b .pre .0 .checked .fewStages, b .pre .0 .checked .fewSegments)
 
-element-copy-out-t30-2 : tie.Need-element-copy-out-t30-2 Inv-loop μ-loop
-element-copy-out-t30-2 c =
+element-copy-out-t26-2 : tie.Need-element-copy-out-t26-2
+element-copy-out-t26-2 c =
     let b = c .before .before .before .before .before .before .before .before in
-    omega (arith, few (b .pre .0) (b .pre .1 .0) (b .args .least .0) (b .pre .1 .1 .0) (b .pre .1 .1 .1), b .pre .0 .checked .fewStages, b .pre .0 .checked .fewSegments)
+    omega (arith, b .pre .1 .0 .few, b .pre .1 .1 .0, b .pre .0 .checked .fewStages, b .pre .0 .checked .fewSegments)
 
-add-t35 : tie.Need-add-t35 Inv-loop μ-loop
-add-t35 c =
+add-t31 : tie.Need-add-t31
+add-t31 c =
     let b = c .before .before .before .before .before .before .before .before .before in
-    omega (arith, few (b .pre .0) (b .pre .1 .0) (b .args .least .0) (b .pre .1 .1 .0) (b .pre .1 .1 .1), b .pre .0 .checked .fewStages, b .pre .0 .checked .fewSegments)
+    omega (arith, b .pre .1 .0 .few, b .pre .1 .1 .0, b .pre .0 .checked .fewStages, b .pre .0 .checked .fewSegments)
 
-mul-t36 : tie.Need-mul-t36 Inv-loop μ-loop
-mul-t36 c =
+mul-t32 : tie.Need-mul-t32
+mul-t32 c =
     let b = c .before .before .before .before .before .before .before .before .before in
-    omega (arith, few (b .pre .0) (b .pre .1 .0) (b .args .least .0) (b .pre .1 .1 .0) (b .pre .1 .1 .1), b .pre .0 .checked .fewStages, b .pre .0 .checked .fewSegments)
+    omega (arith, b .pre .1 .0 .few, b .pre .1 .1 .0, b .pre .0 .checked .fewStages, b .pre .0 .checked .fewSegments)
 
-element-copy-out-t39 : tie.Need-element-copy-out-t39 Inv-loop μ-loop
-element-copy-out-t39 c =
+element-copy-out-t35 : tie.Need-element-copy-out-t35
+element-copy-out-t35 c =
     let b = c .before .before .before .before .before .before .before .before .before in
-    omega (arith, few (b .pre .0) (b .pre .1 .0) (b .args .least .0) (b .pre .1 .1 .0) (b .pre .1 .1 .1), b .pre .0 .checked .fewStages, b .pre .0 .checked .fewSegments)
+    omega (arith, b .pre .1 .0 .few, b .pre .1 .1 .0, b .pre .0 .checked .fewStages, b .pre .0 .checked .fewSegments)
 
-add-t40 : tie.Need-add-t40 Inv-loop μ-loop
-add-t40 c =
+add-t36 : tie.Need-add-t36
+add-t36 c =
     let b = c .before .before .before .before .before .before .before .before .before .before in
     omega (arith, load-most (b .pre .0) (b .pre .1 .0) (b .args .least .0) (b .pre .1 .1 .0) (b .pre .1 .1 .1))
 
-shared-slice-read-top : tie.Need-shared-slice-read-top Inv-loop μ-loop
+shared-slice-read-top : tie.Need-shared-slice-read-top
 shared-slice-read-top c =
     let b = c .before .before .before .before .before .before .before .before .before .before .before in
-    omega (arith, few (b .pre .0) (b .pre .1 .0) (b .args .least .0) (b .pre .1 .1 .0) (b .pre .1 .1 .1), allowed-long (netBy (b .args .counts) (b .args .job .now)) (b .args .upper .now) (b .pre .0 .upperAllowed))
+    omega (arith, b .pre .1 .0 .few, b .pre .1 .1 .0, allowed-long (netBy (b .args .counts) (b .args .job .now)) (b .args .upper .now) (b .pre .0 .upperAllowed))
 
-shared-slice-read-k : tie.Need-shared-slice-read-k Inv-loop μ-loop
-shared-slice-read-k c =
+shared-slice-read-pass-over : tie.Need-shared-slice-read-pass-over
+shared-slice-read-pass-over c =
     let b = c .before .before .before .before .before .before .before .before .before .before .before .before in
-    omega (arith, few (b .pre .0) (b .pre .1 .0) (b .args .least .0) (b .pre .1 .1 .0) (b .pre .1 .1 .1), allowed-long (netBy (b .args .counts) (b .args .job .now)) (b .args .lower .now) (b .pre .0 .lowerAllowed))
+    omega (arith, b .pre .1 .0 .few, b .pre .1 .1 .0, allowed-long (netBy (b .args .counts) (b .args .job .now)) (b .args .lower .now) (b .pre .0 .lowerAllowed))
 
-loop-holds : tie.Need-loop-holds Inv-loop μ-loop
-loop-holds c =
-    let b = c .before .before .before .before .before .before .before .before .before .before .before .before in
-    begin (b .pre .0) (b .pre .1 .0) (b .args .least .0) (b .pre .1 .1 .0) (b .pre .1 .1 .1)
+pass-over-requires : tie.Need-pass-over-requires
+pass-over-requires c κs =
+    let b = c .before .before .before .before .before .before .before .before .before .before .before .before in (
+      b .pre .0 .checked,
+      (
+        (few (b .pre .0) (b .pre .1 .0) (b .args .least .0) (b .pre .1 .1 .0) (b .pre .1 .1 .1), top-high (b .pre .0) (b .pre .1 .0) (b .args .least .0) (b .pre .1 .1 .0) (b .pre .1 .1 .1), weight-most (b .pre .0) (b .pre .1 .0) (b .args .least .0) (b .pre .1 .1 .0) (b .pre .1 .1 .1), resistance-most (b .pre .0) (b .pre .1 .0) (b .args .least .0) (b .pre .1 .1 .0) (b .pre .1 .1 .1), load-most (b .pre .0) (b .pre .1 .0) (b .args .least .0) (b .pre .1 .1 .0) (b .pre .1 .1 .1)),
+        ((b .pre .0 .inOrder (b .args .left - 1) (few (b .pre .0) (b .pre .1 .0) (b .args .least .0) (b .pre .1 .1 .0) (b .pre .1 .1 .1)), small (b .pre .0) (b .pre .1 .0) (b .args .least .0) (b .pre .1 .1 .0) (b .pre .1 .1 .1)), all-fit (b .pre .0) (b .pre .1 .0) (b .args .least .0) (b .pre .1 .1 .0) (b .pre .1 .1 .1)),
+      ),
+    )
 
-step-requires : tie.Need-step-requires Inv-loop μ-loop
-step-requires c κs =
-    let b = c .before .before .before .before .before .before .before .before .before .before .before .before .before .before in
-    let l = c .before .loop in
-    (b .pre .0 .checked, (few (b .pre .0) (b .pre .1 .0) (b .args .least .0) (b .pre .1 .1 .0) (b .pre .1 .1 .1), high (b .pre .0) (b .pre .1 .0) (b .args .least .0) (b .pre .1 .1 .0) (b .pre .1 .1 .1) (l .inv) (c .loop-test .taken), weight-most (b .pre .0) (b .pre .1 .0) (b .args .least .0) (b .pre .1 .1 .0) (b .pre .1 .1 .1), resistance-most (b .pre .0) (b .pre .1 .0) (b .args .least .0) (b .pre .1 .1 .0) (b .pre .1 .1 .1), load-most (b .pre .0) (b .pre .1 .0) (b .args .least .0) (b .pre .1 .1 .0) (b .pre .1 .1 .1)))
-
-add-delay-requires : tie.Need-add-delay-requires Inv-loop μ-loop
-add-delay-requires c κs =
-    let b = c .before .before .before .before .before .before .before .before .before .before .before .before .before .before .before in
-    let l = c .before .before .loop in
-    fits (b .pre .0) (b .pre .1 .0) (b .args .least .0) (b .pre .1 .1 .0) (b .pre .1 .1 .1) (l .inv) (c .before .loop-test .taken) (c .step .result) (c .step .ensures)
-
-add-k : tie.Need-add-k Inv-loop μ-loop
-add-k c =
-    let b = c .before .before .before .before .before .before .before .before .before .before .before .before .before .before .before .before in
-    let l = c .before .before .before .loop in
-    omega (arith, c .before .before .loop-test .taken, small (b .pre .0) (b .pre .1 .0) (b .args .least .0) (b .pre .1 .1 .0) (b .pre .1 .1 .1))
-
-slice-write-x : tie.Need-slice-write-x Inv-loop μ-loop
-slice-write-x c =
-    let b = c .before .before .before .before .before .before .before .before .before .before .before .before .before .before .before .before .before .before .before in
-    let l = c .before .before .before .before .before .before .loop in
-    omega (arith, few (b .pre .0) (b .pre .1 .0) (b .args .least .0) (b .pre .1 .1 .0) (b .pre .1 .1 .1), allowed-long (netBy (b .args .counts) (b .args .job .now)) (l .x) (l .inv .allowed))
-
-keep-requires : tie.Need-keep-requires Inv-loop μ-loop
-keep-requires c κs =
-    let b = c .before .before .before .before .before .before .before .before .before .before .before .before .before .before .before .before .before .before .before .before .before .before in
-    let l = c .before .before .before .before .before .before .before .before .before .loop in
-    let e = length-set (l .x) (b .args .left - 1) (l .k) ∙ allowed-long (netBy (b .args .counts) (b .args .job .now)) (l .x) (l .inv .allowed) in
-    (e ∙ sym (l .inv .leanLong), e ∙ sym (l .inv .wideLong))
-
-loop-less : tie.Need-loop-less Inv-loop μ-loop
-loop-less c = omega (arith, c .before .before .before .before .before .before .before .before .before .before .before .before .before .loop-test .taken)
-
-loop-again : tie.Need-loop-again Inv-loop μ-loop
-loop-again c =
-    let b = c .before .before .before .before .before .before .before .before .before .before .before .before .before .before .before .before .before .before .before .before .before .before .before .before .before .before .before in
-    let l = c .before .before .before .before .before .before .before .before .before .before .before .before .before .before .loop in
-    let r = c .before .before .before .before .keep in
-    taken (b .pre .0) (b .pre .1 .0) (b .args .least .0) (b .pre .1 .1 .0) (b .pre .1 .1 .1) (l .inv) (c .before .before .before .before .before .before .before .before .before .before .before .before .before .loop-test .taken) (c .before .before .before .before .before .before .before .before .before .before .before .before .step .result) (c .before .before .before .before .before .before .before .before .before .before .before .before .step .ensures) (b .pre .1 .1 .2) (c .before .before .before .before .before .before .before .before .before .before .before .add-delay .result .0) (c .before .before .before .before .before .before .before .before .before .before .before .add-delay .ensures .0) _ (r .kept .1 .1 .1 .0) (r .kept .1 .1 .1 .1 .0) (r .ensures)
-
-loop-less-2 : tie.Need-loop-less-2 Inv-loop μ-loop
-loop-less-2 c = omega (arith, c .before .before .before .before .before .loop-test .taken)
-
-loop-again-2 : tie.Need-loop-again-2 Inv-loop μ-loop
-loop-again-2 c =
-    let b = c .before .before .before .before .before .before .before .before .before .before .before .before .before .before .before .before .before .before .before in
-    let l = c .before .before .before .before .before .before .loop in
-    passed (b .pre .0) (b .pre .1 .0) (b .args .least .0) (b .pre .1 .1 .0) (b .pre .1 .1 .1) (l .inv) (c .before .before .before .before .before .loop-test .taken) (c .before .before .before .before .step .result) (c .before .before .before .before .step .ensures) (b .pre .1 .1 .2) (c .before .before .before .add-delay .result .0) (c .before .before .before .add-delay .ensures .0) (omega (arith, c .if1 .left))
-
-same-length : tie.Need-same-length Inv-loop μ-loop
-same-length c =
-    let b = c .before .before .before .before .before .before .before .before .before .before .before .before .before .before in
-    let l = c .before .loop in
-    allowed-long (netBy (b .args .counts) (b .args .job .now)) (l .x) (l .inv .allowed) ∙ sym (allowed-long (netBy (b .args .counts) (b .args .job .now)) (b .args .x .now) (b .pre .1 .0 .allowed))
-
-same-length-2 : tie.Need-same-length-2 Inv-loop μ-loop
-same-length-2 c =
-    let b = c .before .before .before .before .before .before .before .before .before .before .before .before .before .before in
-    let l = c .before .loop in
-    l .inv .leanLong ∙ sym (b .pre .1 .0 .leanLong)
-
-same-length-3 : tie.Need-same-length-3 Inv-loop μ-loop
-same-length-3 c =
-    let b = c .before .before .before .before .before .before .before .before .before .before .before .before .before .before in
-    let l = c .before .loop in
-    l .inv .wideLong ∙ sym (b .pre .1 .0 .wideLong)
-
-returns : tie.Need-returns Inv-loop μ-loop
+returns : tie.Need-returns
 returns c =
     let b = c .before .before .before .before .before .before .before .before .before .before .before .before .before .before in
-    let l = c .before .loop in
-    ended (b .pre .0) (b .pre .1 .0) (b .args .least .0) (b .pre .1 .1 .0) (b .pre .1 .1 .1) (b .args .gathered .now) (l .inv) (c .loop-test .left) refl
+    ended (b .pre .0) (b .pre .1 .0) (b .args .least .0) (b .pre .1 .1 .0) (b .pre .1 .1 .1) (b .args .gathered .now) (passed-to (b .pre .0) (b .pre .1 .0) (b .args .least .0) (b .pre .1 .1 .0) (b .pre .1 .1 .1) (b .pre .1 .1 .2) _ (c .before .pass-over .ensures)) (c .if1 .taken) refl
+
+take-from-requires : tie.Need-take-from-requires
+take-from-requires c κs =
+    let b = c .before .before .before .before .before .before .before .before .before .before .before .before .before .before .before .before .before in
+    (b .pre .0, (b .pre .1 .0, (b .pre .1 .1, c .before .before .before .before .pass-over .ensures)))
+
+same-length : tie.Need-same-length
+same-length c = search needs
+
+same-length-2 : tie.Need-same-length-2
+same-length-2 c = search needs
+
+same-length-3 : tie.Need-same-length-3
+same-length-3 c = search needs
+
+returns-2 : tie.Need-returns-2
+returns-2 c = search needs
 
 pub last-spec : {M : Type 1} → statement M
 last-spec =
     tie.close
     (tie.spec
-    Inv-loop
-    μ-loop
     sub-p
     mul-weight
     element-copy-out-weight
-    mul-t27
-    element-copy-out-t30
-    mul-t27-2
-    element-copy-out-t30-2
-    add-t35
-    mul-t36
-    element-copy-out-t39
-    add-t40
+    mul-t23
+    element-copy-out-t26
+    mul-t23-2
+    element-copy-out-t26-2
+    add-t31
+    mul-t32
+    element-copy-out-t35
+    add-t36
     shared-slice-read-top
-    shared-slice-read-k
-    loop-holds
-    step-requires
-    add-delay-requires
-    add-k
-    slice-write-x
-    keep-requires
-    loop-less
-    loop-again
-    loop-less-2
-    loop-again-2
+    shared-slice-read-pass-over
+    pass-over-requires
+    returns
+    take-from-requires
     same-length
     same-length-2
     same-length-3
-    returns)
+    returns-2)
