@@ -548,12 +548,19 @@ impl Search<'_, '_> {
         let (weight, upstream) = (self.sums.weights[p], self.sums.upstream[p]);
         let driven = self.sums.driven[p] + self.gathered[p + 1];
         let length = self.net.length(p);
-        for k in self.lower[p]..=self.upper[p] {
-            let step = self.net.step(weight, length, k, driven);
-            let reached = added + step.delay + upstream * step.load;
-            if reached <= self.found.least {
+        let reached = |net: &Net, k: u8| {
+            let step = net.step(weight, length, k, driven);
+            added + step.delay + upstream * step.load
+        };
+        let mut k = self.lower[p];
+        while k <= self.upper[p] && reached(&self.net, k) > self.found.least {
+            k += 1;
+        }
+        for k in k..=self.upper[p] {
+            let delay = reached(&self.net, k);
+            if delay <= self.found.least {
                 self.x[p] = k;
-                self.found.keep(self.x, reached);
+                self.found.keep(self.x, delay);
             }
         }
     }
