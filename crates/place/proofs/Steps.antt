@@ -1,7 +1,7 @@
 -- The steps of one place: that each product fits, and that it is what the definitions say.
 use mathlib.Core.Path.{_≡_}
 use mathlib.Core.List.{List}
-use Prim.Native.Nat.{ℕ, _+_, _*_, _-_, _≤_, _<_}
+use Prim.Native.Nat.{ℕ, _+_, _*_, _-_, _^_, _≤_, _<_}
 use native.Mathlib.Nat.{mul-le-mul}
 use native.Mathlib.Omega.{arith}
 use borrow.Author.Tests.{lt-ltb, le-ltb}
@@ -28,19 +28,19 @@ pub upstream-small : (u l : ℕ) → u ≤ 443904000000 → l ≤ 13000000 → u
 upstream-small u l h k = mul-le-mul h k
 
 module _ (net : Net) (w u k l : ℕ) (r : PlaceStep) where
-  pub stage-step-of : (s : ℕ) → s < net .stages → r .load .0 ≡ net .gate k → r .delay .0 ≡ w * (net .driverResistance k * (net .output k + l)) + u * net .gate k
+  pub stage-step-of : (s : ℕ) → s < net .stages → r .load .0 ≡ net .gate k → r .delay .0 ≡ w * (net .driverResistance k * (net .output k + l)) + u * net .gate k → r .delay .0 < 2 ^ 63
       → StepOf net w u s k l r
   unfolding delayAt loadAt
-  stage-step-of s h g d = record { delay = rw (lt-ltb s (net .stages) h) d; load = rw (lt-ltb s (net .stages) h) g }
+  stage-step-of s h g d f = record { delay = rw (lt-ltb s (net .stages) h) d; load = rw (lt-ltb s (net .stages) h) g; fits = f }
 
   pub segment-step-of : (i : ℕ) → r .load .0 ≡ net .wireCapacitance i k + l
-      → r .delay .0 ≡ w * (net .wireResistance i k * (net .wireCapacitance i k + 2 * l)) + u * (net .wireCapacitance i k + l)
+      → r .delay .0 ≡ w * (net .wireResistance i k * (net .wireCapacitance i k + 2 * l)) + u * (net .wireCapacitance i k + l) → r .delay .0 < 2 ^ 63
       → StepOf net w u (net .stages + i) k l r
   unfolding delayAt loadAt
-  segment-step-of i g d =
+  segment-step-of i g d f =
       let h : net .stages ≤ net .stages + i = omega arith in
       let e : net .stages + i - net .stages ≡ i = omega arith in
-      record { delay = rw (le-ltb (net .stages + i) (net .stages) h, e) d; load = rw (le-ltb (net .stages + i) (net .stages) h, e) g }
+      record { delay = rw (le-ltb (net .stages + i) (net .stages) h, e) d; load = rw (le-ltb (net .stages + i) (net .stages) h, e) g; fits = f }
 
 -- By cases: a stage, a segment.
 module _ (net : Net) where

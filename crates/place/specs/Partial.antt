@@ -1,7 +1,7 @@
 -- What one place adds, from what is known of the places after it: cited by the contracts of this crate.
 use mathlib.Core.Path.{_≡_}
 use mathlib.Core.List.{List}
-use Prim.Native.Nat.{ℕ, _+_, _*_, _≤_, _<_}
+use Prim.Native.Nat.{ℕ, _+_, _*_, _^_, _≤_, _<_}
 use lib.ListN.{length}
 use Rattle.lattice.specs.Lists.{at}
 use Rattle.net.specs.Net.{Net, places}
@@ -12,6 +12,7 @@ use Rattle.place.specs.declared.PlaceStep.{PlaceStep}
 pub record StepOf (net : Net) (w u p k l : ℕ) (r : PlaceStep) : Type 0 where
   pub delay : r .delay .0 ≡ w * delayAt net p k l + u * loadAt net p k l
   pub load : r .load .0 ≡ loadAt net p k l
+  pub fits : r .delay .0 < 2 ^ 63
 
 -- `weights` has the weights of the places from p on.
 pub record WeightsFrom (net : Net) (p : ℕ) (weights : List ℕ) : Type 0 where

@@ -177,7 +177,7 @@ pub fn go_upstream(
 // A step of the weighted delay `own` and the load `load`, which is charged through the resistance upstream too.
 fn charged_upstream(upstream: Resistance, own: Delay, load: Capacitance) -> PlaceStep
     requires { ⌜ (upstream .0 ≤ 443904000000) × (own .0 ≤ 84864000000000000) × (load .0 ≤ 13000000) ⌝ }
-    ensures { λ r. ⌜ (r .delay .0 ≡ own .0 + upstream .0 * load .0) × (r .load .0 ≡ load .0) ⌝ }
+    ensures { λ r. ⌜ (r .delay .0 ≡ own .0 + upstream .0 * load .0) × (r .load .0 ≡ load .0) × (r .delay .0 < 2 ^ 63) ⌝ }
 {
     PlaceStep {
         delay: quantity::add_delay(own, quantity::delay_through(upstream, load)),

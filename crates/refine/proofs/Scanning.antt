@@ -1,11 +1,9 @@
 -- The search for the best index at a place, step by step: what its loop knows, and that it ends with the best index.
-use mathlib.Core.Path.{_≡_, sym, ap, subst}
-use mathlib.Core.Bool.{true, false}
+use mathlib.Core.Path.{_≡_, refl, sym, ap, subst}
 use mathlib.Core.List.{List}
-use Prim.Native.Nat.{ℕ, suc, _+_, _*_, _≤_, _<_}
+use Prim.Native.Nat.{ℕ, zero, suc, _+_, _*_, _≤_, _<_}
 use native.Mathlib.Numerals.{add-one}
 use native.Mathlib.Omega.{arith}
-use borrow.Author.Tests.{ltb-true, ltb-false, leb-true, leb-false}
 use lib.ListN.{length, set}
 use Rattle.lattice.specs.Lists.{at}
 use Rattle.lattice.specs.Side.{Side as From, below, above, Order}
@@ -29,7 +27,7 @@ use Rattle.place.proofs.OnePlace.{traded}
 use Rattle.lattice.specs.declared.Side.{Side}
 use Rattle.lattice.specs.declared.Side.the-variants.{Below, Above}
 use Rattle.lattice.specs.SideOf.{sideOf}
-use Rattle.refine.specs.Wins.{winsOver}
+use Rattle.refine.specs.Margin.{marginOf}
 
 -- an index in its range keeps a sizing allowed
 pub allowed-set : (net : Net) (x : List ℕ) (p k : ℕ) → Allowed (allowed net) x → net .lowest p ≤ k → k ≤ net .highest p → Allowed (allowed net) (set x p k)
@@ -53,6 +51,16 @@ module _ (net : Net) (o : Ordered net) (l : Limited net) (weights upstream x : L
     rw e (driven-small net o l x a p few),
   )
 
+-- The side that has a margin.
+unfoldable pub sided : ℕ → From
+sided zero = below
+sided (suc n) = above
+
+pub sided-margin : (side : Side) → (marginOf side ≤ 1) × (sided (marginOf side) ≡ sideOf side)
+unfolding sided
+sided-margin Below = (omega arith, refl)
+sided-margin Above = (omega arith, refl)
+
 -- `best`, of the price `least`, is the best index of those up to k
 pub record Scanning (net : Net) (s : From) (x : List ℕ) (p : ℕ) (price : ℕ → ℕ) (k best least : ℕ) : Type 0 where
   pub leads : Leads s (allowed net) (delay net) x p (suc k) best
@@ -62,12 +70,12 @@ pub record Scanning (net : Net) (s : From) (x : List ℕ) (p : ℕ) (price : ℕ
   pub high : k ≤ net .highest p
 
 -- The delay changes with the index at p as the price does.
-module _ (net : Net) (side : Side) (x : List ℕ) (a : Allowed (allowed net) x) (p : ℕ) (few : p < places net) (price : ℕ → ℕ)
+module _ (net : Net) (m : ℕ) (x : List ℕ) (a : Allowed (allowed net) x) (p : ℕ) (few : p < places net) (price : ℕ → ℕ)
     (traded : (i j : ℕ) → delay net (set x p j) + price i ≡ delay net (set x p i) + price j) where
   abbrev s : From
-  s = sideOf side
+  s = sided m
 
-  pub scanning-start : (k least : ℕ) → k ≡ net .lowest p → net .lowest p ≤ net .highest p → least ≡ price k → Scanning net s x p price k k least
+  pub scanning-start : (k least : ℕ) → k ≡ net .lowest p → net .lowest p ≤ net .highest p → least ≡ price k → Scanning net (sided m) x p price k k least
   unfolding within
   scanning-start k least e r d =
       record {
@@ -83,41 +91,43 @@ module _ (net : Net) (side : Side) (x : List ℕ) (a : Allowed (allowed net) x) 
       order-here below a = omega arith
       order-here above a = omega arith
 
-  module _ (k best least : ℕ) (i : Scanning net s x p price k best least) (h : k < net .highest p) (d : ℕ) (e : d ≡ price (k + 1)) where
-    taken : (t : Side) → winsOver t d least ≡ true → (d ≤ least) × (least ≤ d → Order (sideOf t) (k + 1) best)
-    taken Below w = let l = ltb-true d least w in (omega arith, λ m. absurd (omega arith))
-    taken Above w = let u = i .upTo in (leb-true d least w, λ m. omega arith)
+  module _ (k best least : ℕ) (i : Scanning net (sided m) x p price k best least) (h : k < net .highest p) (d : ℕ) (e : d ≡ price (k + 1)) where
+    taken : (n : ℕ) → n ≤ 1 → d < least + n → (d ≤ least) × (least ≤ d → Order (sided n) (k + 1) best)
+    unfolding sided
+    taken zero o w = (omega arith, λ q. absurd (omega arith))
+    taken (suc n) o w = let u = i .upTo in (omega arith, λ q. omega arith)
 
-    kept : (t : Side) → winsOver t d least ≡ false → (least ≤ d) × (d ≤ least → Order (sideOf t) best (k + 1))
-    kept Below w = let u = i .upTo in (ltb-false d least w, λ m. omega arith)
-    kept Above w = let l = leb-false d least w in (omega arith, λ m. absurd (omega arith))
+    kept : (n : ℕ) → n ≤ 1 → least + n ≤ d → (least ≤ d) × (d ≤ least → Order (sided n) best (k + 1))
+    unfolding sided
+    kept zero o w = let u = i .upTo in (omega arith, λ q. omega arith)
+    kept (suc n) o w = (omega arith, λ q. absurd (omega arith))
 
     -- the next index takes the place of the best, or does not
-    next : (b m : ℕ) → Leads s (allowed net) (delay net) x p (suc (k + 1)) b → m ≡ price b → b ≤ k + 1 → Scanning net s x p price (k + 1) b m
-    next b m l f u = let lo = i .low in record { leads = l; costs = f; upTo = u; low = omega arith; high = omega arith }
+    next : (b v : ℕ) → Leads s (allowed net) (delay net) x p (suc (k + 1)) b → v ≡ price b → b ≤ k + 1 → Scanning net (sided m) x p price (k + 1) b v
+    next b v l f u = let lo = i .low in record { leads = l; costs = f; upTo = u; low = omega arith; high = omega arith }
 
     before : Leads s (allowed net) (delay net) x p (k + 1) best
     before = rw (add-one k) (i .leads)
 
-    pub scanning-take : winsOver side d least ≡ true → Scanning net s x p price (k + 1) (k + 1) d
-    scanning-take w =
-        let m = i .costs in
+    pub scanning-take : m ≤ 1 → d < least + m → Scanning net (sided m) x p price (k + 1) (k + 1) d
+    scanning-take one w =
+        let v = i .costs in
         let lo = i .low in
         let t = traded best (k + 1) in
-        let o : (d ≤ least) × (least ≤ d → Order s (k + 1) best) = taken side w in
+        let o : (d ≤ least) × (least ≤ d → Order s (k + 1) best) = taken m one w in
         next (k + 1) d
         (scan-take (allowed-lattice net) (delay net) s x p (k + 1) best (allowed-set net x p (k + 1) a (omega arith) (omega arith)) (omega arith) (λ q. o .1 (omega arith)) before)
         e (omega arith)
 
-    pub scanning-keep : winsOver side d least ≡ false → Scanning net s x p price (k + 1) best least
-    scanning-keep w =
-        let m = i .costs in
+    pub scanning-keep : m ≤ 1 → least + m ≤ d → Scanning net (sided m) x p price (k + 1) best least
+    scanning-keep one w =
+        let v = i .costs in
         let u = i .upTo in
         let t = traded best (k + 1) in
-        let o : (least ≤ d) × (d ≤ least → Order s best (k + 1)) = kept side w in
-        next best least (scan-keep (allowed-lattice net) (delay net) s x p (k + 1) best (omega arith) (λ q. o .1 (omega arith)) before) m (omega arith)
+        let o : (least ≤ d) × (d ≤ least → Order s best (k + 1)) = kept m one w in
+        next best least (scan-keep (allowed-lattice net) (delay net) s x p (k + 1) best (omega arith) (λ q. o .1 (omega arith)) before) v (omega arith)
 
   -- past the highest index
-  pub scanning-end : (k best least : ℕ) → Scanning net s x p price k best least → net .highest p ≤ k → set x p best ≡ refine s (allowed net) (delay net) x p
+  pub scanning-end : (k best least : ℕ) → Scanning net (sided m) x p price k best least → net .highest p ≤ k → set x p best ≡ refine (sided m) (allowed net) (delay net) x p
   unfolding refine within
   scanning-end k best least i h = ap (λ v. set x p v) (sym (scan-end (allowed-lattice net) (delay net) s x p a few (suc k) best (omega arith) (i .leads)))

@@ -1,1 +1,1 @@
-pub mod Wins
+pub mod Margin

@@ -16,15 +16,15 @@ ghost use Rattle.net.specs.Sizings.{allowed};
 ghost use Rattle.net.specs.Checked.{Checked};
 ghost use Rattle.place.specs.Partial.{WeightsFrom};
 ghost use Rattle.place.specs.Held.{UpstreamTo};
-ghost use Rattle.refine.specs.Wins.{winsOver};
+ghost use Rattle.refine.specs.Margin.{marginOf};
 
-// Does a larger index of delay d take the place of the best so far, of delay least?
-fn wins(side: Side, d: Delay, least: Delay) -> bool
-    ensures { λ r. ⌜ r ≡ winsOver side (d .0) (least .0) ⌝ }
+// Below the least delay so far plus this margin the delay of a larger index wins: from above also where it ties.
+fn margin(side: Side) -> u64
+    ensures { λ r. ⌜ r ≡ marginOf side ⌝ }
 {
     match side {
-        Side::Below => d.0 < least.0,
-        Side::Above => d.0 <= least.0,
+        Side::Below => 0,
+        Side::Above => 1,
     }
 }
 
@@ -50,6 +50,7 @@ pub fn settle(
 {
     let weight = weights[place];
     let before = Resistance(upstream[place]);
+    let tie = margin(side);
     let top = job::highest(job, counts, place);
     let mut k = job::lowest(job, counts, place);
     let mut best = k;
@@ -57,7 +58,7 @@ pub fn settle(
     while k < top {
         k += 1;
         let d = place::step(job, counts, weight, before, place, k, driven).delay;
-        if wins(side, d, least) {
+        if d.0 < least.0 + tie {
             least = d;
             best = k;
         }

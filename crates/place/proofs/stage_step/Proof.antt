@@ -52,7 +52,7 @@ charged-upstream-requires c κs =
 returns : tie.Need-returns
 returns c =
     let b = c .before .before .before .before .before .before .before .before in
-    stage-step-of (netBy (b .args .counts) (b .args .job .now)) (b .args .weight) (b .args .upstream .0) (b .args .k) (b .args .driven .0) _ (b .args .s) (omega arith) (cc) (cc)
+    stage-step-of (netBy (b .args .counts) (b .args .job .now)) (b .args .weight) (b .args .upstream .0) (b .args .k) (b .args .driven .0) _ (b .args .s) (omega arith) (cc) (cc) (c .charged-upstream .ensures .2)
 
 pub stage-step-spec : {M : Type 1} → statement M
 stage-step-spec =
