@@ -464,6 +464,7 @@ impl Sums {
     fn settled(&self, net: &Net, p: usize, side: Side) -> u8 {
         let (weight, driven, upstream) = (self.weights[p], self.driven[p], self.upstream[p]);
         let length = net.length(p);
+        let tie = u64::from(side == Side::Above);
         let value = |k| {
             let step = net.step(weight, length, k, driven);
             step.delay + upstream * step.load
@@ -474,7 +475,7 @@ impl Sums {
         while k < high {
             k += 1;
             let d = value(k);
-            if d < least || (d == least && side == Side::Above) {
+            if d < least + tie {
                 least = d;
                 best = k;
             }
