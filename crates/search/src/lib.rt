@@ -110,8 +110,8 @@ fn fixed_delay(
     sum
 }
 
-// The first index of place p from `low` on that gives a delay of at most `least`, or the one past `top`. It writes nothing, so that most indices of
-// a search are passed over fast.
+// The first index of place p from `low` on that gives a delay of at most `least`, or the one past `top`. It writes nothing and is called at the
+// last free place, so most sizings of a search are passed over by it.
 fn pass_over(
     job: &[u8],
     counts: Counts,
@@ -189,71 +189,6 @@ fn take_from(
     best
 }
 
-// Takes every sizing that has the indices of x but at the place before `left`, the last one that is free.
-fn last(
-    job: &[u8],
-    counts: Counts,
-    weights: &[u64; 68],
-    upstream: &[u64; 68],
-    driven: &[u64; 68],
-    ups: &[usize; 68],
-    skips: &[usize; 69],
-    lower: &[u8],
-    upper: &[u8],
-    left: usize,
-    added: Delay,
-    x: &mut [u8],
-    gathered: &[u64; 69],
-    least: Delay,
-    lean: &mut [u8],
-    wide: &mut [u8],
-) -> Delay
-    requires { ⌜ Prepared counts (now job) (now weights) (now upstream) (now driven) (now ups) (now skips) (now lower) (now upper) ⌝ }
-    requires { ⌜ Sized (netBy counts (now job)) (now lower) (now upper) (now upstream) (now driven) (now ups) left (added .0) (now x) (now gathered) (now lean) (now wide) ⌝ }
-    requires { ⌜ (0 < left) × (free (now lower) (now upper) (left - 1) ≡ true) × (at (now skips) (left - 1) ≡ 0) ⌝ }
-    ensures { λ r. ⌜ Searched (netBy counts (now (job .entry))) (now (lower .entry)) (now (upper .entry)) left (now (x .entry)) (now (gathered .entry)) (found (least .0) (now (lean .entry)) (now (wide .entry))) (now (x .exit)) (now (gathered .entry)) (found (r .0) (now (lean .exit)) (now (wide .exit))) ⌝ }
-{
-    let p = left - 1;
-    let weight = weights[p];
-    let before = Resistance(upstream[p]);
-    let load = Capacitance(driven[p] + gathered[p + 1]);
-    let top = upper[p];
-    let start = pass_over(
-        job,
-        counts,
-        weight,
-        before,
-        p,
-        load,
-        added,
-        least,
-        lower[p],
-        top,
-    );
-    if start > top {
-        return least;
-    }
-    take_from(
-        job,
-        counts,
-        weights,
-        upstream,
-        driven,
-        ups,
-        skips,
-        lower,
-        upper,
-        left,
-        start,
-        added,
-        x,
-        gathered,
-        least,
-        lean,
-        wide,
-    )
-}
-
 // Takes every sizing that has the indices of x from `left` on and lies between the bounds before it, where the place before `left` is free and
 // not the last one that is. The loads of the free places from `left` on, each at the node where it arrives, and the delay so far are carried along.
 fn search(
@@ -281,7 +216,8 @@ fn search(
 {
     let p = left - 1;
     let rest = skips[p];
-    let further = skips[rest - 1];
+    let next = rest - 1;
+    let further = skips[next];
     let weight = weights[p];
     let before = Resistance(upstream[p]);
     let load = Capacitance(driven[p] + gathered[p + 1]);
@@ -298,24 +234,39 @@ fn search(
         gathered[node] = others + shown.0;
         k += 1;
         if further == 0 {
-            best = last(
+            let first = pass_over(
                 job,
                 counts,
-                weights,
-                upstream,
-                driven,
-                ups,
-                skips,
-                lower,
-                upper,
-                rest,
+                weights[next],
+                Resistance(upstream[next]),
+                next,
+                Capacitance(driven[next] + gathered[next + 1]),
                 reached,
-                x,
-                gathered,
                 best,
-                lean,
-                wide,
+                lower[next],
+                upper[next],
             );
+            if first <= upper[next] {
+                best = take_from(
+                    job,
+                    counts,
+                    weights,
+                    upstream,
+                    driven,
+                    ups,
+                    skips,
+                    lower,
+                    upper,
+                    rest,
+                    first,
+                    reached,
+                    x,
+                    gathered,
+                    best,
+                    lean,
+                    wide,
+                );
+            }
         } else {
             best = search(
                 job,
@@ -369,7 +320,7 @@ fn start(
     }
     let mut gathered = [0u64; 69];
     if skips[left - 1] == 0 {
-        return last(
+        return take_from(
             job,
             counts,
             weights,
@@ -380,6 +331,7 @@ fn start(
             lower,
             upper,
             left,
+            lower[left - 1],
             fixed,
             x,
             &gathered,

@@ -1,6 +1,6 @@
 -- `search::search` meets its contract: the loop has the sizings with the indices passed, and each call has fewer places left.
 use Rattle.net.proofs.Questions.{allowed-long}
-use Rattle.search.proofs.Calls.{few, load-most, weight-most, resistance-most, node-low, others-small, rest-low, rest-free, small, begin, high, shown-small, fits, ready, done, ended}
+use Rattle.search.proofs.Calls.{few, load-most, weight-most, resistance-most, node-low, others-small, rest-low, rest-free, small, begin, top-high, all-fit, passed-to, high, shown-small, fits, ready, done, ended}
 use Rattle.search.proofs.Turns.{Turning}
 use Rattle.envelope.specs.Kept.{found}
 use Rattle.net.specs.Net.{netBy}
@@ -18,7 +18,8 @@ use Rattle.search.proofs.search.Kinds as search-kinds
 use Rattle.search.proofs.+search.Lts-search as search-lts
 use Rattle.place.proofs.step.Reads as step-reads
 use Rattle.quantity.proofs.add_delay.Reads as add-delay-reads
-use Rattle.search.proofs.last.Reads as last-reads
+use Rattle.search.proofs.pass_over.Reads as pass-over-reads
+use Rattle.search.proofs.take_from.Reads as take-from-reads
 use Rattle.search.proofs.+search.{statement}
 use Rattle.search.proofs.+search.Tie.{close}
 
@@ -38,18 +39,20 @@ search-claims t = (
   step-reads.Learnt,
   add-delay-reads.Asked,
   add-delay-reads.Learnt,
-  last-reads.Asked,
-  last-reads.Learnt,
+  pass-over-reads.Asked,
+  pass-over-reads.Learnt,
+  take-from-reads.Asked,
+  take-from-reads.Learnt,
   search-below t,
   search′.Post,
 )
 
 abbrev search-Inv-loop : search-lts.InvT-loop
-search-Inv-loop job counts weights upstream driven ups skips lower upper left added x₀ gathered₀ lean₀ wide₀ p rest further weight before load node others top k₀ best₀ x gathered lean wide k best =
+search-Inv-loop job counts weights upstream driven ups skips lower upper left added x₀ gathered₀ lean₀ wide₀ p rest next further weight before load node others top k₀ best₀ x gathered lean wide k best =
     Turning (netBy counts job) lower upper p x₀ (found (best₀ .0) lean₀ wide₀) x k (found (best .0) lean wide) × ((v : ℕ) → set gathered node v ≡ set gathered₀ node v)
 
 abbrev search-μ-loop : search-lts.MeasureT-loop
-search-μ-loop job counts weights upstream driven ups skips lower upper left added x₀ gathered₀ lean₀ wide₀ p rest further weight before load node others top k₀ best₀ x gathered lean wide k best = suc top - k
+search-μ-loop job counts weights upstream driven ups skips lower upper left added x₀ gathered₀ lean₀ wide₀ p rest next further weight before load node others top k₀ best₀ x gathered lean wide k best = suc top - k
 
 search-sub-p : (t : ℕ) → search-lts.Need-sub-p (search-claims t) (search-at t) search′.Post search-Inv-loop search-μ-loop
 search-sub-p t c =
@@ -66,8 +69,8 @@ search-element-copy-out-rest t c =
     let b = c .before .before .before .before .before .before in
     omega (arith, b .pre .1 .1 .0 .few, b .pre .1 .1 .1 .0, b .pre .1 .0 .checked .fewStages, b .pre .1 .0 .checked .fewSegments)
 
-search-sub-further : (t : ℕ) → search-lts.Need-sub-further (search-claims t) (search-at t) search′.Post search-Inv-loop search-μ-loop
-search-sub-further t c =
+search-sub-next : (t : ℕ) → search-lts.Need-sub-next (search-claims t) (search-at t) search′.Post search-Inv-loop search-μ-loop
+search-sub-next t c =
     let b = c .before .before .before .before .before .before .before in
     omega (arith, b .pre .1 .1 .1 .2)
 
@@ -205,22 +208,117 @@ search-add-k t c =
     let b = c .before .before .before .before .before .before .before .before .before .before .before .before .before .before .before .before .before .before .before .before .before .before in
     omega (arith, c .before .before .before .before .loop-test .taken, small (b .pre .1 .0) (b .pre .1 .1 .0) (b .args .least .0) (b .pre .1 .1 .1 .0) (b .pre .1 .1 .1 .1))
 
-search-last-requires : (t : ℕ) → search-lts.Need-last-requires (search-claims t) (search-at t) search′.Post search-Inv-loop search-μ-loop
-search-last-requires t c κs =
+search-mul-pass-over : (t : ℕ) → search-lts.Need-mul-pass-over (search-claims t) (search-at t) search′.Post search-Inv-loop search-μ-loop
+search-mul-pass-over t c =
+    let b = c .before .before .before .before .before .before .before .before .before .before .before .before .before .before .before .before .before .before .before .before .before .before .before in
+    omega (arith, rest-low (b .pre .1 .0) (b .pre .1 .1 .0) (b .args .least .0) (b .pre .1 .1 .1 .0) (b .pre .1 .1 .1 .1), b .pre .1 .1 .0 .few, b .pre .1 .1 .1 .0, b .pre .1 .0 .checked .fewStages, b .pre .1 .0 .checked .fewSegments)
+
+search-element-copy-out-pass-over : (t : ℕ) → search-lts.Need-element-copy-out-pass-over (search-claims t) (search-at t) search′.Post search-Inv-loop search-μ-loop
+search-element-copy-out-pass-over t c =
+    let b = c .before .before .before .before .before .before .before .before .before .before .before .before .before .before .before .before .before .before .before .before .before .before .before in
+    omega (arith, rest-low (b .pre .1 .0) (b .pre .1 .1 .0) (b .args .least .0) (b .pre .1 .1 .1 .0) (b .pre .1 .1 .1 .1), b .pre .1 .1 .0 .few, b .pre .1 .1 .1 .0, b .pre .1 .0 .checked .fewStages, b .pre .1 .0 .checked .fewSegments)
+
+search-mul-t68 : (t : ℕ) → search-lts.Need-mul-t68 (search-claims t) (search-at t) search′.Post search-Inv-loop search-μ-loop
+search-mul-t68 t c =
+    let b = c .before .before .before .before .before .before .before .before .before .before .before .before .before .before .before .before .before .before .before .before .before .before .before .before in
+    omega (arith, rest-low (b .pre .1 .0) (b .pre .1 .1 .0) (b .args .least .0) (b .pre .1 .1 .1 .0) (b .pre .1 .1 .1 .1), b .pre .1 .1 .0 .few, b .pre .1 .1 .1 .0, b .pre .1 .0 .checked .fewStages, b .pre .1 .0 .checked .fewSegments)
+
+search-element-copy-out-t71 : (t : ℕ) → search-lts.Need-element-copy-out-t71 (search-claims t) (search-at t) search′.Post search-Inv-loop search-μ-loop
+search-element-copy-out-t71 t c =
+    let b = c .before .before .before .before .before .before .before .before .before .before .before .before .before .before .before .before .before .before .before .before .before .before .before .before in
+    omega (arith, rest-low (b .pre .1 .0) (b .pre .1 .1 .0) (b .args .least .0) (b .pre .1 .1 .1 .0) (b .pre .1 .1 .1 .1), b .pre .1 .1 .0 .few, b .pre .1 .1 .1 .0, b .pre .1 .0 .checked .fewStages, b .pre .1 .0 .checked .fewSegments)
+
+search-mul-t73 : (t : ℕ) → search-lts.Need-mul-t73 (search-claims t) (search-at t) search′.Post search-Inv-loop search-μ-loop
+search-mul-t73 t c =
+    let b = c .before .before .before .before .before .before .before .before .before .before .before .before .before .before .before .before .before .before .before .before .before .before .before .before .before in
+    omega (arith, rest-low (b .pre .1 .0) (b .pre .1 .1 .0) (b .args .least .0) (b .pre .1 .1 .1 .0) (b .pre .1 .1 .1 .1), b .pre .1 .1 .0 .few, b .pre .1 .1 .1 .0, b .pre .1 .0 .checked .fewStages, b .pre .1 .0 .checked .fewSegments)
+
+search-element-copy-out-t76 : (t : ℕ) → search-lts.Need-element-copy-out-t76 (search-claims t) (search-at t) search′.Post search-Inv-loop search-μ-loop
+search-element-copy-out-t76 t c =
+    let b = c .before .before .before .before .before .before .before .before .before .before .before .before .before .before .before .before .before .before .before .before .before .before .before .before .before in
+    omega (arith, rest-low (b .pre .1 .0) (b .pre .1 .1 .0) (b .args .least .0) (b .pre .1 .1 .1 .0) (b .pre .1 .1 .1 .1), b .pre .1 .1 .0 .few, b .pre .1 .1 .1 .0, b .pre .1 .0 .checked .fewStages, b .pre .1 .0 .checked .fewSegments)
+
+search-add-t77 : (t : ℕ) → search-lts.Need-add-t77 (search-claims t) (search-at t) search′.Post search-Inv-loop search-μ-loop
+search-add-t77 t c =
+    let b = c .before .before .before .before .before .before .before .before .before .before .before .before .before .before .before .before .before .before .before .before .before .before .before .before .before .before in
+    omega (arith, rest-low (b .pre .1 .0) (b .pre .1 .1 .0) (b .args .least .0) (b .pre .1 .1 .1 .0) (b .pre .1 .1 .1 .1), b .pre .1 .1 .0 .few, b .pre .1 .1 .1 .0, b .pre .1 .0 .checked .fewStages, b .pre .1 .0 .checked .fewSegments)
+
+search-mul-t78 : (t : ℕ) → search-lts.Need-mul-t78 (search-claims t) (search-at t) search′.Post search-Inv-loop search-μ-loop
+search-mul-t78 t c =
+    let b = c .before .before .before .before .before .before .before .before .before .before .before .before .before .before .before .before .before .before .before .before .before .before .before .before .before .before in
+    omega (arith, rest-low (b .pre .1 .0) (b .pre .1 .1 .0) (b .args .least .0) (b .pre .1 .1 .1 .0) (b .pre .1 .1 .1 .1), b .pre .1 .1 .0 .few, b .pre .1 .1 .1 .0, b .pre .1 .0 .checked .fewStages, b .pre .1 .0 .checked .fewSegments)
+
+search-element-copy-out-t81 : (t : ℕ) → search-lts.Need-element-copy-out-t81 (search-claims t) (search-at t) search′.Post search-Inv-loop search-μ-loop
+search-element-copy-out-t81 t c =
+    let b = c .before .before .before .before .before .before .before .before .before .before .before .before .before .before .before .before .before .before .before .before .before .before .before .before .before .before in
+    omega (arith, rest-low (b .pre .1 .0) (b .pre .1 .1 .0) (b .args .least .0) (b .pre .1 .1 .1 .0) (b .pre .1 .1 .1 .1), b .pre .1 .1 .0 .few, b .pre .1 .1 .1 .0, b .pre .1 .0 .checked .fewStages, b .pre .1 .0 .checked .fewSegments)
+
+search-add-t82 : (t : ℕ) → search-lts.Need-add-t82 (search-claims t) (search-at t) search′.Post search-Inv-loop search-μ-loop
+search-add-t82 t c =
     let b = c .before .before .before .before .before .before .before .before .before .before .before .before .before .before .before .before .before .before .before .before .before .before .before .before .before .before .before in
     let l = c .before .before .before .before .before .before .before .before .before .before .loop in
     let n : at (b .args .skips .now) (b .args .left - 1) ≡ 0 → ⊥ = λ e. omega (arith, b .pre .1 .1 .1 .2) in
-    (b .pre .1 .0, (ready (b .pre .1 .0) (b .pre .1 .1 .0) (b .args .least .0) (b .pre .1 .1 .1 .0) (b .pre .1 .1 .1 .1) (l .inv .0) (c .before .before .before .before .before .before .before .before .before .loop-test .taken) (c .before .before .before .before .before .before .before .before .step .result) (c .before .before .before .before .before .before .before .before .step .ensures) (c .before .before .before .before .before .before .before .add-delay .result .0) _ (l .gathered) (c .before .before .before .before .before .before .before .add-delay .ensures .0) refl (l .inv .1), (b .pre .1 .1 .1 .2, rest-free (b .pre .1 .0) (b .pre .1 .1 .0) (b .args .least .0) (b .pre .1 .1 .1 .0) (b .pre .1 .1 .1 .1) n, c .before .before .before .before .if1 .taken)))
+    let s = ready (b .pre .1 .0) (b .pre .1 .1 .0) (b .args .least .0) (b .pre .1 .1 .1 .0) (b .pre .1 .1 .1 .1) (l .inv .0) (c .before .before .before .before .before .before .before .before .before .loop-test .taken) (c .before .before .before .before .before .before .before .before .step .result) (c .before .before .before .before .before .before .before .before .step .ensures) (c .before .before .before .before .before .before .before .add-delay .result .0) _ (l .gathered) (c .before .before .before .before .before .before .before .add-delay .ensures .0) refl (l .inv .1) in
+    omega (arith, load-most (b .pre .1 .0) s (l .best .0) (b .pre .1 .1 .1 .2) (rest-free (b .pre .1 .0) (b .pre .1 .1 .0) (b .args .least .0) (b .pre .1 .1 .1 .0) (b .pre .1 .1 .1 .1) n))
+
+search-shared-slice-read-pass-over : (t : ℕ) → search-lts.Need-shared-slice-read-pass-over (search-claims t) (search-at t) search′.Post search-Inv-loop search-μ-loop
+search-shared-slice-read-pass-over t c =
+    let b = c .before .before .before .before .before .before .before .before .before .before .before .before .before .before .before .before .before .before .before .before .before .before .before .before .before .before .before .before in
+    omega (arith, rest-low (b .pre .1 .0) (b .pre .1 .1 .0) (b .args .least .0) (b .pre .1 .1 .1 .0) (b .pre .1 .1 .1 .1), b .pre .1 .1 .0 .few, b .pre .1 .1 .1 .0, allowed-long (netBy (b .args .counts) (b .args .job .now)) (b .args .lower .now) (b .pre .1 .0 .lowerAllowed))
+
+search-shared-slice-read-pass-over-2 : (t : ℕ) → search-lts.Need-shared-slice-read-pass-over-2 (search-claims t) (search-at t) search′.Post search-Inv-loop search-μ-loop
+search-shared-slice-read-pass-over-2 t c =
+    let b = c .before .before .before .before .before .before .before .before .before .before .before .before .before .before .before .before .before .before .before .before .before .before .before .before .before .before .before .before .before in
+    omega (arith, rest-low (b .pre .1 .0) (b .pre .1 .1 .0) (b .args .least .0) (b .pre .1 .1 .1 .0) (b .pre .1 .1 .1 .1), b .pre .1 .1 .0 .few, b .pre .1 .1 .1 .0, allowed-long (netBy (b .args .counts) (b .args .job .now)) (b .args .upper .now) (b .pre .1 .0 .upperAllowed))
+
+search-pass-over-requires : (t : ℕ) → search-lts.Need-pass-over-requires (search-claims t) (search-at t) search′.Post search-Inv-loop search-μ-loop
+search-pass-over-requires t c κs =
+    let b = c .before .before .before .before .before .before .before .before .before .before .before .before .before .before .before .before .before .before .before .before .before .before .before .before .before .before .before .before .before in
+    let l = c .before .before .before .before .before .before .before .before .before .before .before .before .loop in
+    let n : at (b .args .skips .now) (b .args .left - 1) ≡ 0 → ⊥ = λ e. omega (arith, b .pre .1 .1 .1 .2) in
+    let s = ready (b .pre .1 .0) (b .pre .1 .1 .0) (b .args .least .0) (b .pre .1 .1 .1 .0) (b .pre .1 .1 .1 .1) (l .inv .0) (c .before .before .before .before .before .before .before .before .before .before .before .loop-test .taken) (c .before .before .before .before .before .before .before .before .before .before .step .result) (c .before .before .before .before .before .before .before .before .before .before .step .ensures) (c .before .before .before .before .before .before .before .before .before .add-delay .result .0) _ (l .gathered) (c .before .before .before .before .before .before .before .before .before .add-delay .ensures .0) refl (l .inv .1) in (
+      b .pre .1 .0 .checked,
+      (
+        (few (b .pre .1 .0) s (l .best .0) (b .pre .1 .1 .1 .2) (rest-free (b .pre .1 .0) (b .pre .1 .1 .0) (b .args .least .0) (b .pre .1 .1 .1 .0) (b .pre .1 .1 .1 .1) n), top-high (b .pre .1 .0) s (l .best .0) (b .pre .1 .1 .1 .2) (rest-free (b .pre .1 .0) (b .pre .1 .1 .0) (b .args .least .0) (b .pre .1 .1 .1 .0) (b .pre .1 .1 .1 .1) n), weight-most (b .pre .1 .0) s (l .best .0) (b .pre .1 .1 .1 .2) (rest-free (b .pre .1 .0) (b .pre .1 .1 .0) (b .args .least .0) (b .pre .1 .1 .1 .0) (b .pre .1 .1 .1 .1) n), resistance-most (b .pre .1 .0) s (l .best .0) (b .pre .1 .1 .1 .2) (rest-free (b .pre .1 .0) (b .pre .1 .1 .0) (b .args .least .0) (b .pre .1 .1 .1 .0) (b .pre .1 .1 .1 .1) n), load-most (b .pre .1 .0) s (l .best .0) (b .pre .1 .1 .1 .2) (rest-free (b .pre .1 .0) (b .pre .1 .1 .0) (b .args .least .0) (b .pre .1 .1 .1 .0) (b .pre .1 .1 .1 .1) n)),
+        ((b .pre .1 .0 .inOrder _ (few (b .pre .1 .0) s (l .best .0) (b .pre .1 .1 .1 .2) (rest-free (b .pre .1 .0) (b .pre .1 .1 .0) (b .args .least .0) (b .pre .1 .1 .1 .0) (b .pre .1 .1 .1 .1) n)), small (b .pre .1 .0) s (l .best .0) (b .pre .1 .1 .1 .2) (rest-free (b .pre .1 .0) (b .pre .1 .1 .0) (b .args .least .0) (b .pre .1 .1 .1 .0) (b .pre .1 .1 .1 .1) n)), all-fit (b .pre .1 .0) s (l .best .0) (b .pre .1 .1 .1 .2) (rest-free (b .pre .1 .0) (b .pre .1 .1 .0) (b .args .least .0) (b .pre .1 .1 .1 .0) (b .pre .1 .1 .1 .1) n)),
+      ),
+    )
+
+search-shared-slice-read-if2 : (t : ℕ) → search-lts.Need-shared-slice-read-if2 (search-claims t) (search-at t) search′.Post search-Inv-loop search-μ-loop
+search-shared-slice-read-if2 t c =
+    let b = c .before .before .before .before .before .before .before .before .before .before .before .before .before .before .before .before .before .before .before .before .before .before .before .before .before .before .before .before .before .before .before in
+    omega (arith, rest-low (b .pre .1 .0) (b .pre .1 .1 .0) (b .args .least .0) (b .pre .1 .1 .1 .0) (b .pre .1 .1 .1 .1), b .pre .1 .1 .0 .few, b .pre .1 .1 .1 .0, allowed-long (netBy (b .args .counts) (b .args .job .now)) (b .args .upper .now) (b .pre .1 .0 .upperAllowed))
+
+search-take-from-requires : (t : ℕ) → search-lts.Need-take-from-requires (search-claims t) (search-at t) search′.Post search-Inv-loop search-μ-loop
+search-take-from-requires t c κs =
+    let b = c .before .before .before .before .before .before .before .before .before .before .before .before .before .before .before .before .before .before .before .before .before .before .before .before .before .before .before .before .before .before .before .before .before .before .before .before in
+    let l = c .before .before .before .before .before .before .before .before .before .before .before .before .before .before .before .before .before .before .before .loop in
+    let n : at (b .args .skips .now) (b .args .left - 1) ≡ 0 → ⊥ = λ e. omega (arith, b .pre .1 .1 .1 .2) in
+    (b .pre .1 .0, (ready (b .pre .1 .0) (b .pre .1 .1 .0) (b .args .least .0) (b .pre .1 .1 .1 .0) (b .pre .1 .1 .1 .1) (l .inv .0) (c .before .before .before .before .before .before .before .before .before .before .before .before .before .before .before .before .before .before .loop-test .taken) (c .before .before .before .before .before .before .before .before .before .before .before .before .before .before .before .before .before .step .result) (c .before .before .before .before .before .before .before .before .before .before .before .before .before .before .before .before .before .step .ensures) (c .before .before .before .before .before .before .before .before .before .before .before .before .before .before .before .before .add-delay .result .0) _ (l .gathered) (c .before .before .before .before .before .before .before .before .before .before .before .before .before .before .before .before .add-delay .ensures .0) refl (l .inv .1), ((b .pre .1 .1 .1 .2, rest-free (b .pre .1 .0) (b .pre .1 .1 .0) (b .args .least .0) (b .pre .1 .1 .1 .0) (b .pre .1 .1 .1 .1) n, c .before .before .before .before .before .before .before .before .before .before .before .before .before .if1 .taken), c .before .before .before .before .before .before .pass-over .ensures)))
 
 search-loop-less : (t : ℕ) → search-lts.Need-loop-less (search-claims t) (search-at t) search′.Post search-Inv-loop search-μ-loop
-search-loop-less t c = omega (arith, c .before .before .before .before .before .before .before .before .before .before .before .before .before .before .before .before .loop-test .taken)
+search-loop-less t c = omega (arith, c .before .before .before .before .before .before .before .before .before .before .before .before .before .before .before .before .before .before .before .before .before .before .before .before .before .loop-test .taken)
 
 search-loop-again : (t : ℕ) → search-lts.Need-loop-again (search-claims t) (search-at t) search′.Post search-Inv-loop search-μ-loop
 search-loop-again t c =
-    let b = c .before .before .before .before .before .before .before .before .before .before .before .before .before .before .before .before .before .before .before .before .before .before .before .before .before .before .before .before .before .before .before .before .before .before in
-    let l = c .before .before .before .before .before .before .before .before .before .before .before .before .before .before .before .before .before .loop in
-    let r = c .before .before .before .before .before .before .last in (
-      done (b .pre .1 .0) (b .pre .1 .1 .0) (b .args .least .0) (b .pre .1 .1 .1 .0) (b .pre .1 .1 .1 .1) (l .inv .0) (c .before .before .before .before .before .before .before .before .before .before .before .before .before .before .before .before .loop-test .taken) _ (r .kept .1 .1 .1 .1 .1 .1 .1 .1 .1 .1 .1 .1 .1 .1 .0) (r .kept .1 .1 .1 .1 .1 .1 .1 .1 .1 .1 .1 .1 .1 .1 .1 .0) (r .ensures),
+    let b = c .before .before .before .before .before .before .before .before .before .before .before .before .before .before .before .before .before .before .before .before .before .before .before .before .before .before .before .before .before .before .before .before .before .before .before .before .before .before .before .before .before .before .before in
+    let l = c .before .before .before .before .before .before .before .before .before .before .before .before .before .before .before .before .before .before .before .before .before .before .before .before .before .before .loop in
+    let r = c .before .before .before .before .before .before .take-from in (
+      done (b .pre .1 .0) (b .pre .1 .1 .0) (b .args .least .0) (b .pre .1 .1 .1 .0) (b .pre .1 .1 .1 .1) (l .inv .0) (c .before .before .before .before .before .before .before .before .before .before .before .before .before .before .before .before .before .before .before .before .before .before .before .before .before .loop-test .taken) _ (r .kept .1 .1 .1 .1 .1 .1 .1 .1 .1 .1 .1 .1 .1 .1 .1 .0) (r .kept .1 .1 .1 .1 .1 .1 .1 .1 .1 .1 .1 .1 .1 .1 .1 .1 .0) (r .ensures),
+      λ w. set-set (l .gathered) (at (b .args .ups .now) (b .args .left - 1)) _ w ∙ l .inv .1 w,
+    )
+
+search-loop-less-2 : (t : ℕ) → search-lts.Need-loop-less-2 (search-claims t) (search-at t) search′.Post search-Inv-loop search-μ-loop
+search-loop-less-2 t c = omega (arith, c .before .before .before .before .before .before .before .before .before .before .before .before .before .before .loop-test .taken)
+
+search-loop-again-2 : (t : ℕ) → search-lts.Need-loop-again-2 (search-claims t) (search-at t) search′.Post search-Inv-loop search-μ-loop
+search-loop-again-2 t c =
+    let b = c .before .before .before .before .before .before .before .before .before .before .before .before .before .before .before .before .before .before .before .before .before .before .before .before .before .before .before .before .before .before .before .before in
+    let l = c .before .before .before .before .before .before .before .before .before .before .before .before .before .before .before .loop in
+    let n : at (b .args .skips .now) (b .args .left - 1) ≡ 0 → ⊥ = λ e. omega (arith, b .pre .1 .1 .1 .2) in
+    let s = ready (b .pre .1 .0) (b .pre .1 .1 .0) (b .args .least .0) (b .pre .1 .1 .1 .0) (b .pre .1 .1 .1 .1) (l .inv .0) (c .before .before .before .before .before .before .before .before .before .before .before .before .before .before .loop-test .taken) (c .before .before .before .before .before .before .before .before .before .before .before .before .before .step .result) (c .before .before .before .before .before .before .before .before .before .before .before .before .before .step .ensures) (c .before .before .before .before .before .before .before .before .before .before .before .before .add-delay .result .0) _ (l .gathered) (c .before .before .before .before .before .before .before .before .before .before .before .before .add-delay .ensures .0) refl (l .inv .1) in (
+      done (b .pre .1 .0) (b .pre .1 .1 .0) (b .args .least .0) (b .pre .1 .1 .1 .0) (b .pre .1 .1 .1 .1) (l .inv .0) (c .before .before .before .before .before .before .before .before .before .before .before .before .before .before .loop-test .taken) _ refl refl
+          (ended (b .pre .1 .0) s (l .best .0) (b .pre .1 .1 .1 .2) (rest-free (b .pre .1 .0) (b .pre .1 .1 .0) (b .args .least .0) (b .pre .1 .1 .1 .0) (b .pre .1 .1 .1 .1) n) _ (passed-to (b .pre .1 .0) s (l .best .0) (b .pre .1 .1 .1 .2) (rest-free (b .pre .1 .0) (b .pre .1 .1 .0) (b .args .least .0) (b .pre .1 .1 .1 .0) (b .pre .1 .1 .1 .1) n) (c .before .before .before .before .before .before .before .before .before .if1 .taken) _ (c .before .before .pass-over .ensures)) (omega (arith, c .if2 .left)) refl),
       λ w. set-set (l .gathered) (at (b .args .ups .now) (b .args .left - 1)) _ w ∙ l .inv .1 w,
     )
 
@@ -231,11 +329,11 @@ search-search-requires t c κs =
     let n : at (b .args .skips .now) (b .args .left - 1) ≡ 0 → ⊥ = λ e. omega (arith, b .pre .1 .1 .1 .2) in
     (omega (arith, rest-low (b .pre .1 .0) (b .pre .1 .1 .0) (b .args .least .0) (b .pre .1 .1 .1 .0) (b .pre .1 .1 .1 .1), b .pre .0, b .pre .1 .1 .1 .0), (b .pre .1 .0, (ready (b .pre .1 .0) (b .pre .1 .1 .0) (b .args .least .0) (b .pre .1 .1 .1 .0) (b .pre .1 .1 .1 .1) (l .inv .0) (c .before .before .before .before .before .before .before .before .before .loop-test .taken) (c .before .before .before .before .before .before .before .before .step .result) (c .before .before .before .before .before .before .before .before .step .ensures) (c .before .before .before .before .before .before .before .add-delay .result .0) _ (l .gathered) (c .before .before .before .before .before .before .before .add-delay .ensures .0) refl (l .inv .1), (b .pre .1 .1 .1 .2, rest-free (b .pre .1 .0) (b .pre .1 .1 .0) (b .args .least .0) (b .pre .1 .1 .1 .0) (b .pre .1 .1 .1 .1) n, omega (arith, c .before .before .before .before .if1 .left)))))
 
-search-loop-less-2 : (t : ℕ) → search-lts.Need-loop-less-2 (search-claims t) (search-at t) search′.Post search-Inv-loop search-μ-loop
-search-loop-less-2 t c = omega (arith, c .before .before .before .before .before .before .before .before .before .before .before .before .before .before .before .before .loop-test .taken)
+search-loop-less-3 : (t : ℕ) → search-lts.Need-loop-less-3 (search-claims t) (search-at t) search′.Post search-Inv-loop search-μ-loop
+search-loop-less-3 t c = omega (arith, c .before .before .before .before .before .before .before .before .before .before .before .before .before .before .before .before .loop-test .taken)
 
-search-loop-again-2 : (t : ℕ) → search-lts.Need-loop-again-2 (search-claims t) (search-at t) search′.Post search-Inv-loop search-μ-loop
-search-loop-again-2 t c =
+search-loop-again-3 : (t : ℕ) → search-lts.Need-loop-again-3 (search-claims t) (search-at t) search′.Post search-Inv-loop search-μ-loop
+search-loop-again-3 t c =
     let b = c .before .before .before .before .before .before .before .before .before .before .before .before .before .before .before .before .before .before .before .before .before .before .before .before .before .before .before .before .before .before .before .before .before .before in
     let l = c .before .before .before .before .before .before .before .before .before .before .before .before .before .before .before .before .before .loop in
     let r = c .before .before .before .before .before .before .search in (
@@ -286,7 +384,7 @@ pub +search-spec : {M : Type 1} → statement M
     (search-sub-p t)
     (search-mul-rest t)
     (search-element-copy-out-rest t)
-    (search-sub-further t)
+    (search-sub-next t)
     (search-mul-further t)
     (search-element-copy-out-further t)
     (search-mul-weight t)
@@ -313,12 +411,28 @@ pub +search-spec : {M : Type 1} → statement M
     (search-mul-gathered t)
     (search-element-write-gathered t)
     (search-add-k t)
-    (search-last-requires t)
+    (search-mul-pass-over t)
+    (search-element-copy-out-pass-over t)
+    (search-mul-t68 t)
+    (search-element-copy-out-t71 t)
+    (search-mul-t73 t)
+    (search-element-copy-out-t76 t)
+    (search-add-t77 t)
+    (search-mul-t78 t)
+    (search-element-copy-out-t81 t)
+    (search-add-t82 t)
+    (search-shared-slice-read-pass-over t)
+    (search-shared-slice-read-pass-over-2 t)
+    (search-pass-over-requires t)
+    (search-shared-slice-read-if2 t)
+    (search-take-from-requires t)
     (search-loop-less t)
     (search-loop-again t)
-    (search-search-requires t)
     (search-loop-less-2 t)
     (search-loop-again-2 t)
+    (search-search-requires t)
+    (search-loop-less-3 t)
+    (search-loop-again-3 t)
     (search-mul-gathered-2 t)
     (search-element-write-gathered-2 t)
     (search-same-length t)

@@ -1,4 +1,5 @@
 -- `search::start` meets its contract: one sizing where no place is free, else the search from the last free place on.
+use Rattle.search.proofs.Passing.{passing-start}
 use Rattle.search.proofs.Starting.{start-sized, start-found, start-one}
 use Rattle.net.proofs.Questions.{allowed-long}
 use Rattle.search.proofs.Tables.{skip-le, skip-free}
@@ -15,7 +16,7 @@ use Rattle.search.proofs.start.Reads as reads
 use Rattle.search.proofs.start.Lts as lts
 use Rattle.envelope.proofs.keep.Reads as keep-reads
 use Rattle.search.proofs.fixed_delay.Reads as fixed-delay-reads
-use Rattle.search.proofs.last.Reads as last-reads
+use Rattle.search.proofs.take_from.Reads as take-from-reads
 use Rattle.search.proofs.search.Reads as search-reads
 
 fixed-delay-requires : tie.Need-fixed-delay-requires
@@ -65,14 +66,25 @@ element-copy-out-if2 c =
     let b = c .before .before .before .before .before .before .before .before .before .before in
     omega (arith, skip-le (b .args .lower .now) (b .args .upper .now) (b .args .counts .stages + b .args .counts .segments) (b .args .skips .now) (b .pre .0 .skipped) (b .args .counts .stages + b .args .counts .segments) (omega arith), b .pre .0 .checked .fewStages, b .pre .0 .checked .fewSegments)
 
-last-requires : tie.Need-last-requires
-last-requires c κs =
-    let b = c .before .before .before .before .before .before .before .before .before .before .before .before .before .before .before .before in
-    let n = c .before .before .before .before .before .before .if1 .left in (
+sub-take-from : tie.Need-sub-take-from
+sub-take-from c = search needs
+
+shared-slice-read-take-from : tie.Need-shared-slice-read-take-from
+shared-slice-read-take-from c =
+    let b = c .before .before .before .before .before .before .before .before .before .before .before .before .before in
+    omega (arith, skip-le (b .args .lower .now) (b .args .upper .now) (b .args .counts .stages + b .args .counts .segments) (b .args .skips .now) (b .pre .0 .skipped) (b .args .counts .stages + b .args .counts .segments) (omega arith), allowed-long (netBy (b .args .counts) (b .args .job .now)) (b .args .lower .now) (b .pre .0 .lowerAllowed))
+
+take-from-requires : tie.Need-take-from-requires
+take-from-requires c κs =
+    let b = c .before .before .before .before .before .before .before .before .before .before .before .before .before .before .before .before .before in
+    let n = c .before .before .before .before .before .before .before .if1 .left in (
       b .pre .0,
       (
-        start-sized (b .pre .0) (c .before .before .before .before .before .before .before .before .before .fixed-delay .result .0) (b .pre .1 .0) (c .before .before .before .before .before .before .before .before .before .fixed-delay .ensures) (b .pre .1 .1 .0) (b .pre .1 .1 .1),
-        (omega (arith, n), skip-free (b .args .lower .now) (b .args .upper .now) (b .args .counts .stages + b .args .counts .segments) (b .args .skips .now) (b .pre .0 .skipped) (b .args .counts .stages + b .args .counts .segments) (omega arith) n, c .before .before .before .before .if2 .taken),
+        start-sized (b .pre .0) (c .before .before .before .before .before .before .before .before .before .before .fixed-delay .result .0) (b .pre .1 .0) (c .before .before .before .before .before .before .before .before .before .before .fixed-delay .ensures) (b .pre .1 .1 .0) (b .pre .1 .1 .1),
+        (
+          (omega (arith, n), skip-free (b .args .lower .now) (b .args .upper .now) (b .args .counts .stages + b .args .counts .segments) (b .args .skips .now) (b .pre .0 .skipped) (b .args .counts .stages + b .args .counts .segments) (omega arith) n, c .before .before .before .before .before .if2 .taken),
+          passing-start (b .pre .0 .inOrder _ (omega (arith, skip-le (b .args .lower .now) (b .args .upper .now) (b .args .counts .stages + b .args .counts .segments) (b .args .skips .now) (b .pre .0 .skipped) (b .args .counts .stages + b .args .counts .segments) (omega arith), n))),
+        ),
       ),
     )
 
@@ -87,8 +99,8 @@ same-length-6 c = search needs
 
 returns-2 : tie.Need-returns-2
 returns-2 c =
-    let b = c .before .before .before .before .before .before .before .before .before .before .before .before .before .before .before .before .before .before .before .before .before .before .before in
-    start-found (b .pre .0) (b .pre .1 .0) (c .before .before .before .before .before .before .last .ensures)
+    let b = c .before .before .before .before .before .before .before .before .before .before .before .before .before .before .before .before .before .before .before .before .before .before .before .before in
+    start-found (b .pre .0) (b .pre .1 .0) (c .before .before .before .before .before .before .take-from .ensures)
 
 search-requires : tie.Need-search-requires
 search-requires c κs =
@@ -131,7 +143,9 @@ start-spec =
     sub-if2
     mul-if2
     element-copy-out-if2
-    last-requires
+    sub-take-from
+    shared-slice-read-take-from
+    take-from-requires
     same-length-4
     same-length-5
     same-length-6
