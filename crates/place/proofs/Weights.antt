@@ -1,24 +1,16 @@
 -- The weights of the places: those of the stages and of the segments, and that they are small.
-use mathlib.Core.Path.{_≡_, refl, sym, ap, _∙_}
-use mathlib.Core.Logic.{⊎-elim}
-use mathlib.Core.List.{List}
+use mathlib.Core.Path.{_≡_, ap}
 use Prim.Native.Nat.{ℕ, suc, _+_, _*_, _-_, _≤_, _<_}
-use native.Mathlib.Nat.{eq-or-lt-of-le, mul-le-mul-right}
+use native.Mathlib.Nat.{mul-le-mul-right}
 use native.Mathlib.Decide.{decLe}
-use native.Mathlib.Numerals.{add-one}
 use native.Mathlib.Omega.{arith}
 use borrow.Author.Tests.{lt-ltb, le-ltb}
-use lib.ListN.{length, set, length-set}
-use lib.Seq.{getD-set-same, getD-set-other}
-use Rattle.lattice.specs.Lists.{at}
 use Rattle.net.specs.Net.{Net, places}
-use Rattle.net.specs.Delay.{branches}
 use Rattle.net.specs.Segments.{weightBelow, totalWeight}
 use Rattle.net.specs.Places.{placeWeight}
 use Rattle.net.specs.Checked.{Ordered, Limited}
 use Rattle.net.proofs.Sum.{sum-bounded}
-use Rattle.net.proofs.Exchange.{branches-whole}
-use Rattle.net.proofs.Bound.{branches-bounded, weightBelow-small}
+use Rattle.net.proofs.Bound.{weightBelow-small}
 
 module _ (net : Net) where
   pub segment-weight : (i : ℕ) → placeWeight net (net .stages + i) ≡ weightBelow net i

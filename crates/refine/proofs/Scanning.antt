@@ -4,7 +4,7 @@ use mathlib.Core.List.{List}
 use Prim.Native.Nat.{ℕ, zero, suc, _+_, _*_, _≤_, _<_}
 use native.Mathlib.Numerals.{add-one}
 use native.Mathlib.Omega.{arith}
-use lib.ListN.{length, set}
+use lib.ListN.{set}
 use Rattle.lattice.specs.Lists.{at}
 use Rattle.lattice.specs.Side.{Side as From, below, above, Order}
 use Rattle.lattice.specs.Space.{Allowed, within}

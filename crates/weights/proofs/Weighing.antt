@@ -3,11 +3,10 @@ use mathlib.Core.Path.{_≡_, refl, sym, ap, _∙_}
 use mathlib.Core.Logic.{⊎-elim}
 use mathlib.Core.List.{List}
 use Prim.Native.Nat.{ℕ, suc, _+_, _*_, _-_, _≤_, _<_}
-use native.Mathlib.Nat.{eq-or-lt-of-le, mul-le-mul-right}
+use native.Mathlib.Nat.{eq-or-lt-of-le}
 use native.Mathlib.Decide.{decLe}
 use native.Mathlib.Numerals.{add-one}
 use native.Mathlib.Omega.{arith}
-use borrow.Author.Tests.{lt-ltb, le-ltb}
 use lib.ListN.{length, set, length-set}
 use lib.Seq.{getD-set-same, getD-set-other}
 use Rattle.lattice.specs.Lists.{at}
@@ -16,9 +15,8 @@ use Rattle.net.specs.Delay.{branches}
 use Rattle.net.specs.Segments.{weightBelow, totalWeight}
 use Rattle.net.specs.Places.{placeWeight}
 use Rattle.net.specs.Checked.{Ordered, Limited}
-use Rattle.net.proofs.Sum.{sum-bounded}
 use Rattle.net.proofs.Exchange.{branches-whole}
-use Rattle.net.proofs.Bound.{branches-bounded, weightBelow-small}
+use Rattle.net.proofs.Bound.{branches-bounded}
 use Rattle.links.specs.Links.{Linked}
 use Rattle.place.specs.Partial.{WeightsFrom}
 use Rattle.place.proofs.Weights.{segment-weight, stage-weight}

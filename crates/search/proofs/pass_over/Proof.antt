@@ -1,8 +1,6 @@
 -- `search::pass_over` meets its contract: the loop has the indices passed.
-use mathlib.Core.Path.{_∙_, ap}
 use native.Mathlib.Omega.{arith}
-use native.Mathlib.Numerals.{add-one}
-use Prim.Native.Nat.{ℕ, suc, _+_, _-_}
+use Prim.Native.Nat.{suc, _-_}
 use Rattle.net.specs.Net.{netBy}
 use Rattle.search.specs.Searching.{PassedTo}
 use Rattle.search.proofs.Passing.{passing-start, passing-step}
