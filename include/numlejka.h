@@ -2,7 +2,8 @@
  * Numlejka: least-delay sizing of a driven routing tree.
  *
  * A job is a byte buffer of records of 16 bytes; a place is a stage or a segment of the job, and P is the number of
- * its places; a sizing is P bytes, one index for each place. docs/format.md has the formats of jobs and replies.
+ * its places; a sizing is P bytes, one index for each place. docs/specification.md has the formats of jobs and replies,
+ * and what every figure and number means.
  *
  * Numbers. Each function but numlejka_choose returns 0 where it has answered, and otherwise the number of the first
  * question whose answer is no:
@@ -24,7 +25,7 @@
  *     12    Does the reply buffer hold 8 * (1 + P) bytes?                                             size
  *     13    Is the lower bound at most the upper at each place? (It always is.)                       size
  *     14    Is room at most 65,536?                                                                   size
- *     15    Is each sizing at least P bytes long? Later bytes are not read.                           measure, refine, choose
+ *     15    Is each sizing at least P bytes long? Later bytes make no difference to the answer.       measure, refine, choose
  *     16    Is each index in its place's range?                                                       measure, refine, choose
  *     17    Is the place below P?                                                                     refine
  *
@@ -38,6 +39,13 @@
  *
  * Threads. The library keeps no state and allocates nothing. Any number of calls may run at the same time, as long as
  * nothing writes to a buffer that a running call reads, and nothing uses a buffer that a running call writes to.
+ *
+ * Stack. A call needs at most 24 KiB of stack. Measured on painted stacks, on x86-64 Linux, with a chain of 64 segments
+ * behind 4 stages and 16 places free, the deepest net and the deepest search that there are: measure and choose 19 KiB,
+ * size 13 KiB, refine 3 KiB. The rest is margin; it covers what the dynamic linker may use when the C library's memcpy is
+ * called for the first time (3 KiB more). tests/tests/stack.rs measures it again.
+ *
+ * Time. A call ends on every input. How long it takes depends on the job and is not promised.
  *
  * Link with libnumlejka.a and the C library; nothing else is needed.
  */
