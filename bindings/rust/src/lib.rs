@@ -1,7 +1,8 @@
 //! Numlejka sizes the drivers and wires of a clock net for the least weighted Elmore delay.
 //!
 //! A job is a slice of records of 16 bytes, a sizing one index for each place: `docs/specification.md` of the
-//! repository has the formats. Every function is total: it answers, or tells the question that the job or the sizing fails.
+//! repository has the formats. Every function is total: it answers, or tells the question that the job or the sizing
+//! fails.
 //!
 //! ```
 //! use numlejka::{measure, size, Reply};
