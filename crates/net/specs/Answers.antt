@@ -24,7 +24,7 @@ question16 net x = every (places net) (λ p. inRange (net .lowest p) (net .highe
 abbrev pub question17 : Net → ℕ → Bool
 question17 net p = ltb p (places net)
 
--- The sizing in a buffer: its first P bytes. Later bytes are not read.
+-- The sizing in a buffer: its first P bytes. Later bytes make no difference.
 abbrev pub sizingIn : Net → List ℕ → List ℕ
 sizingIn net x = take (places net) x
 
