@@ -150,7 +150,7 @@ module _ (net : Net) where
         }
 
   -- the reply with 14
-  bounds-unsearched : (behind : List ℕ) → Unsearched net (boundsReply net ++ behind)
+  pub bounds-unsearched : (behind : List ℕ) → Unsearched net (boundsReply net ++ behind)
   unfolding boundsReply
   bounds-unsearched behind =
       let d : List ℕ = replicate 8 255 in
@@ -162,26 +162,26 @@ module _ (net : Net) where
       }
 
   -- a finished reply's delay, lean and wide
-  finished-delay : (behind : List ℕ) → leastDelay net < 256 ^ 8 → replyDelay (finishedReply net ++ behind) ≡ leastDelay net
+  pub finished-delay : (behind : List ℕ) → leastDelay net < 256 ^ 8 → replyDelay (finishedReply net ++ behind) ≡ leastDelay net
   unfolding finishedReply
   finished-delay behind h =
       ap valueOf (reply-delay net _ (littleEndian-long 8 (leastDelay net)) _ _ _ _ behind) ∙ littleEndian-value 8 (leastDelay net) h
 
-  finished-lean : (behind : List ℕ) → replyLean net (finishedReply net ++ behind) ≡ lean net
+  pub finished-lean : (behind : List ℕ) → replyLean net (finishedReply net ++ behind) ≡ lean net
   unfolding finishedReply
   finished-lean behind = reply-bytes net _ (littleEndian-long 8 (leastDelay net)) _ _ _ _ behind 2 (lean net) (lit≤ tt) lean-long (λ p h. refl)
 
-  finished-wide : (behind : List ℕ) → replyWide net (finishedReply net ++ behind) ≡ wide net
+  pub finished-wide : (behind : List ℕ) → replyWide net (finishedReply net ++ behind) ≡ wide net
   unfolding finishedReply
   finished-wide behind = reply-bytes net _ (littleEndian-long 8 (leastDelay net)) _ _ _ _ behind 3 (wide net) (lit≤ tt) wide-long (λ p h. refl)
 
-  finished-bounded : (behind : List ℕ) → Bounded net (finishedReply net ++ behind)
+  pub finished-bounded : (behind : List ℕ) → Bounded net (finishedReply net ++ behind)
   unfolding finishedReply
   finished-bounded behind = reply-bounded _ (littleEndian-long 8 (leastDelay net)) _ _ behind
 
 -- A job that passes has a finished reply.
 module _ (job : List ℕ) (e : refusal job ≡ 0) where
-  least-fits : leastDelay (netOf job) < 256 ^ 8
+  pub least-fits : leastDelay (netOf job) < 256 ^ 8
   least-fits = let r = least-reached job e in omega (arith, r .2, job-fits job e (r .0) (r .1))
 
   reply-finished : (behind : List ℕ) → Finished (netOf job) (finishedReply (netOf job) ++ behind)
@@ -241,16 +241,16 @@ module _ (job : List ℕ) (n : ℕ) where
   abbrev few : Bool
   few = leb (room (netOf job)) 65536
 
-  size-fails : (refusal job ≡ 0 → ⊥) → sizeNumber job n ≡ refusal job
+  pub size-fails : (refusal job ≡ 0 → ⊥) → sizeNumber job n ≡ refusal job
   unfolding sizeNumber
   size-fails z = job-fails job _ z
 
-  size-passes : refusal job ≡ 0 → sizeNumber job n ≡ cond fits (cond few 0 14) 12
+  pub size-passes : refusal job ≡ 0 → sizeNumber job n ≡ cond fits (cond few 0 14) 12
   unfolding sizeNumber firstNo
   size-passes e = job-passes job (ask 12 fits ∷ ask 13 ordered ∷ ask 14 few ∷ []) e ∙ rw (question-13 job e)
 
   -- a reply comes only where the job passes and the buffer holds it
-  replied-passes : Replied (sizeNumber job n) → (refusal job ≡ 0) × (replyLength (netOf job) ≤ n)
+  pub replied-passes : Replied (sizeNumber job n) → (refusal job ≡ 0) × (replyLength (netOf job) ≤ n)
   replied-passes a = go (ℕ-discrete (refusal job) 0)
     where
       held : (b c : Bool) → fits ≡ b → sizeNumber job n ≡ cond b (cond c 0 14) 12 → Replied (sizeNumber job n) → replyLength (netOf job) ≤ n
@@ -287,15 +287,15 @@ module _ (job before : List ℕ) where
   abbrev size : ℕ
   size = replyLength (netOf job)
 
-  buffer-finished : number ≡ 0 → sizeBuffer job before ≡ finishedReply (netOf job) ++ drop size before
+  pub buffer-finished : number ≡ 0 → sizeBuffer job before ≡ finishedReply (netOf job) ++ drop size before
   unfolding sizeBuffer
   buffer-finished e = rw e
 
-  buffer-bounds : number ≡ 14 → sizeBuffer job before ≡ boundsReply (netOf job) ++ drop size before
+  pub buffer-bounds : number ≡ 14 → sizeBuffer job before ≡ boundsReply (netOf job) ++ drop size before
   unfolding sizeBuffer
   buffer-bounds e = rw e
 
-  buffer-refused : (number ≡ 0 → ⊥) → (number ≡ 14 → ⊥) → sizeBuffer job before ≡ before
+  pub buffer-refused : (number ≡ 0 → ⊥) → (number ≡ 14 → ⊥) → sizeBuffer job before ≡ before
   unfolding sizeBuffer
   buffer-refused z f = rw (ne-eqb number 0 z, ne-eqb number 14 f)
 

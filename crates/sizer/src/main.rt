@@ -1,10 +1,14 @@
 // The sizing program: a job from standard input, its reply as text.
+use console::Input;
+
 fn main() {
-    let mut job = [0u8; 65537];
-    let n = io::read_full(0, &mut job);
-    if n == 65537 {
-        console::too_long(1);
-        return;
+    let mut input = [0u8; 65537];
+    match console::read_input(&mut input) {
+        Input::Whole(n) => {
+            let mut text = [0u8; 8192];
+            let length = output::print(&input[..n], &mut text);
+            console::write_output(&text[..length]);
+        }
+        Input::Failed => console::input_failed(),
     }
-    console::report(&job[..n]);
 }
