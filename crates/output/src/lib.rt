@@ -86,7 +86,8 @@ fn put_kind(
     let mut next = at;
     let mut i = 0;
     while i < n {
-        let record = 8 * (1 + (p + i));
+        let place = p + i;
+        let record = 8 * (1 + place);
         next = put_place(
             out,
             next,

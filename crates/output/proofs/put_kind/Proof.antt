@@ -15,11 +15,11 @@ abbrev μ-loop : tie.MeasureT-loop
 loop-holds : tie.Need-loop-holds Inv-loop μ-loop
 loop-holds c = let a = c .before .before .args in lined-start (a .reply .now) (a .known) (a .kind .now) (a .p) (a .n) (a .out .now) (a .at)
 
+add-place : tie.Need-add-place Inv-loop μ-loop
+add-place c = omega (arith, c .before .loop .inv .upTo)
+
 add-record : tie.Need-add-record Inv-loop μ-loop
 add-record c = omega (arith, c .before .loop .inv .upTo)
-
-add-record-2 : tie.Need-add-record-2 Inv-loop μ-loop
-add-record-2 c = omega (arith, c .before .loop .inv .upTo)
 
 mul-record : tie.Need-mul-record Inv-loop μ-loop
 mul-record c = omega (arith, c .before .loop .inv .upTo)
@@ -78,8 +78,8 @@ put-kind-spec =
     Inv-loop
     μ-loop
     loop-holds
+    add-place
     add-record
-    add-record-2
     mul-record
     element-copy-out-put-place
     add-put-place
