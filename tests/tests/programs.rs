@@ -1,7 +1,11 @@
-//! The programs, run on the worked jobs and others, against what the reference says that they write.
+//! The programs, run on the worked jobs and others, against what the reference says that they write; and what they do where reading or
+//! writing fails.
 #![cfg(feature = "library")]
 
-use std::io::Write;
+use std::fs::File;
+use std::io::{Read, Write};
+use std::os::fd::OwnedFd;
+use std::os::unix::net::UnixStream;
 use std::path::PathBuf;
 use std::process::{Command, Output, Stdio};
 
@@ -15,9 +19,17 @@ fn top() -> PathBuf {
     PathBuf::from(env!("CARGO_MANIFEST_DIR")).join("..")
 }
 
+/// The programs.
+const PROGRAMS: [&str; 2] = ["sizer", "sizer_reply"];
+
+/// A program, not yet started.
+fn program(name: &str) -> Command {
+    Command::new(top().join("target/bin").join(name))
+}
+
 /// Runs a program on a job.
-fn run(program: &str, job: &[u8]) -> Output {
-    let mut child = Command::new(top().join("target/bin").join(program))
+fn run(name: &str, job: &[u8]) -> Output {
+    let mut child = program(name)
         .stdin(Stdio::piped())
         .stdout(Stdio::piped())
         .stderr(Stdio::piped())
@@ -118,10 +130,10 @@ fn sizer_reply_writes_the_reply_or_a_line_on_standard_error() {
         }
         let (number, bytes) = reply(&job);
         assert_eq!(output.stdout, bytes, "a job of {} bytes", job.len());
-        let line = if bytes.is_empty() {
-            format!("refused {number}\n")
-        } else {
+        let line = if number == 0 {
             String::new()
+        } else {
+            format!("refused {number}\n")
         };
         assert_eq!(String::from_utf8_lossy(&output.stderr), line);
     }
@@ -132,6 +144,105 @@ fn j4_prints_its_five_lines() {
     let output = run("sizer", &worked::j4().bytes());
     let lines = "answer 0\ndelay 260\nstage 0 0 0 0 0\nstage 1 0 1 0 0\nsegment 0 0 1 0 0\n";
     assert_eq!(String::from_utf8_lossy(&output.stdout), lines);
+}
+
+/// J5 without its last segment: what is left is a job of its own, which is answered.
+fn cut_off() -> Vec<u8> {
+    let mut job = worked::j5().bytes();
+    job.truncate(job.len() - 16);
+    assert_eq!(reply(&job).0, 0);
+    job
+}
+
+/// Nothing was written but one line on standard error, with the system's reason.
+fn told(output: Output, line: &str) {
+    assert_eq!(String::from_utf8_lossy(&output.stdout), "");
+    assert_eq!(String::from_utf8_lossy(&output.stderr), format!("{line}\n"));
+}
+
+#[test]
+fn a_folder_as_input_is_told() {
+    for name in PROGRAMS {
+        let folder = File::open(top()).expect("a folder opens");
+        let output = program(name).stdin(folder).output().expect("the program ends");
+        told(output, "standard input: Is a directory");
+    }
+}
+
+#[test]
+fn an_input_that_fails_after_two_records_is_not_taken_for_its_end() {
+    for name in PROGRAMS {
+        let (mut ours, mut theirs) = UnixStream::pair().expect("two ends");
+        // An end that is closed with bytes unread resets the other, which can still read what came before.
+        theirs.write_all(b"unread").expect("written");
+        ours.write_all(&cut_off()).expect("written");
+        drop(ours);
+        let output = program(name).stdin(OwnedFd::from(theirs)).output().expect("the program ends");
+        told(output, "standard input: Connection reset by peer");
+    }
+}
+
+#[test]
+fn a_writer_that_dies_ends_the_input() {
+    let file = std::env::temp_dir().join(format!("numlejka-cut-{}", std::process::id()));
+    std::fs::write(&file, cut_off()).expect("a file for the job");
+    for name in PROGRAMS {
+        let mut writer = Command::new("sh")
+            .args(["-c", "cat \"$0\"; kill -9 $$"])
+            .arg(&file)
+            .stdout(Stdio::piped())
+            .spawn()
+            .expect("the writer starts");
+        let pipe = writer.stdout.take().expect("its output is piped");
+        let output = program(name).stdin(pipe).output().expect("the program ends");
+        assert!(!writer.wait().expect("the writer ends").success());
+        assert_eq!(output.stdout, run(name, &cut_off()).stdout);
+        assert_ne!(output.stdout, b"");
+        assert!(output.stderr.is_empty());
+    }
+    std::fs::remove_file(file).expect("the file goes");
+}
+
+#[test]
+fn a_full_device_is_told() {
+    for name in PROGRAMS {
+        let mut child = program(name)
+            .stdin(Stdio::piped())
+            .stdout(File::create("/dev/full").expect("the device opens"))
+            .stderr(Stdio::piped())
+            .spawn()
+            .expect("the program starts");
+        child
+            .stdin
+            .take()
+            .expect("piped")
+            .write_all(&worked::j4().bytes())
+            .expect("written");
+        let mut line = String::new();
+        child.stderr.take().expect("piped").read_to_string(&mut line).expect("text");
+        assert!(child.wait().expect("the program ends").success());
+        assert_eq!(line, "standard output: No space left on device\n");
+    }
+}
+
+#[test]
+fn a_closed_standard_output_and_a_closed_standard_input_are_told() {
+    for name in PROGRAMS {
+        let path = top().join("target/bin").join(name);
+        for (closed, line) in [
+            (">&-", "standard output: Bad file descriptor"),
+            ("<&-", "standard input: Bad file descriptor"),
+        ] {
+            let output = Command::new("sh")
+                .arg("-c")
+                .arg(format!("exec \"$0\" {closed}"))
+                .arg(&path)
+                .stdin(File::open(top().join("examples/j4.job")).expect("the example opens"))
+                .output()
+                .expect("the program ends");
+            told(output, line);
+        }
+    }
 }
 
 #[test]
