@@ -67,6 +67,7 @@ pub fn drive(job: &[u8], counts: Counts, lower: &[u8], upper: &[u8], driven: &mu
     requires { ⌜ counts .stages + counts .segments ≤ length (now driven) ⌝ }
     ensures { λ r. ⌜ DrivenFrom (netBy counts (now (job .entry))) (now (lower .entry)) (now (upper .entry)) 0 (now (driven .exit)) ⌝ }
 {
+    // loads, by node
     let mut gathered = [0u64; 69];
     let mut p = counts.stages + counts.segments;
     while p > 0 {
@@ -77,7 +78,9 @@ pub fn drive(job: &[u8], counts: Counts, lower: &[u8], upper: &[u8], driven: &mu
         if lower[p] >= upper[p] {
             let shown = shown_load(job, counts, p, lower[p], load);
             let node = hangs_at(job, counts, p);
-            gathered[node] = gathered[node] + shown.0;
+            let others = Capacitance(gathered[node]);
+            let all = quantity::add_capacitance(others, shown);
+            gathered[node] = all.0;
         }
     }
 }
@@ -106,22 +109,22 @@ fn onward(
     upper: &[u8],
     upstream: &[u64; 68],
     a: usize,
-) -> u64
+) -> Resistance
     requires { ⌜ Checked counts (now job) ⌝ }
     requires { ⌜ WeightsFrom (netBy counts (now job)) 0 (now weights) ⌝ }
     requires { ⌜ Allowed (allowed (netBy counts (now job))) (now lower) ⌝ }
     requires { ⌜ counts .stages + counts .segments ≤ length (now upper) ⌝ }
     requires { ⌜ (a < counts .stages + counts .segments) × (at (now upstream) a ≤ a * 6528000000) ⌝ }
-    ensures { λ r. ⌜ r ≡ onwardOf (netBy counts (now (job .entry))) (now (lower .entry)) (now (upper .entry)) (now (upstream .entry)) a ⌝ }
+    ensures { λ r. ⌜ r .0 ≡ onwardOf (netBy counts (now (job .entry))) (now (lower .entry)) (now (upper .entry)) (now (upstream .entry)) a ⌝ }
 {
     if lower[a] < upper[a] {
-        return 0;
+        return Resistance(0);
     }
     let own = slope(job, counts, weights[a], a, lower[a]);
     if a < counts.stages {
-        return own.0;
+        return own;
     }
-    own.0 + upstream[a]
+    quantity::add_resistance(own, Resistance(upstream[a]))
 }
 
 // The weighted upstream resistance of place p, from those of the places before it.
@@ -133,18 +136,18 @@ pub fn upstream_at(
     upper: &[u8],
     upstream: &[u64; 68],
     p: usize,
-) -> u64
+) -> Resistance
     requires { ⌜ Checked counts (now job) ⌝ }
     requires { ⌜ WeightsFrom (netBy counts (now job)) 0 (now weights) ⌝ }
     requires { ⌜ Allowed (allowed (netBy counts (now job))) (now lower) ⌝ }
     requires { ⌜ counts .stages + counts .segments ≤ length (now upper) ⌝ }
     requires { ⌜ p < counts .stages + counts .segments ⌝ }
     requires { ⌜ UpstreamTo (netBy counts (now job)) (now lower) (now upper) p (now upstream) ⌝ }
-    ensures { λ r. ⌜ r ≡ before (onwardOf (netBy counts (now (job .entry))) (now (lower .entry)) (now (upper .entry)) (now (upstream .entry))) (hangsAt (netBy counts (now (job .entry))) p) ⌝ }
+    ensures { λ r. ⌜ r .0 ≡ before (onwardOf (netBy counts (now (job .entry))) (now (lower .entry)) (now (upper .entry)) (now (upstream .entry))) (hangsAt (netBy counts (now (job .entry))) p) ⌝ }
 {
     let node = hangs_at(job, counts, p);
     if node == 0 {
-        return 0;
+        return Resistance(0);
     }
     onward(job, counts, weights, lower, upper, upstream, node - 1)
 }
@@ -169,7 +172,8 @@ pub fn go_upstream(
 {
     let mut p = 0;
     while p < n {
-        upstream[p] = upstream_at(job, counts, weights, lower, upper, upstream, p);
+        let before = upstream_at(job, counts, weights, lower, upper, upstream, p);
+        upstream[p] = before.0;
         p += 1;
     }
 }

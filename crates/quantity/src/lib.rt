@@ -1,6 +1,8 @@
-// Resistance, capacitance and scaled delay, kept apart: one struct each. Only the functions here multiply them, and tables of them are plain numbers.
+// Resistance, capacitance and scaled delay, kept apart: one struct each. Only the functions here add or multiply them. A table of one of them
+// holds the numbers, and what is read from it becomes its struct at once.
 ghost use mathlib.Core.Path.{_≡_};
 ghost use Prim.Native.Nat.{_+_, _*_, _^_, _<_};
+ghost use lib.Dec.{ltb};
 
 pub struct Resistance(pub u64);
 
@@ -41,6 +43,14 @@ pub fn weighted_resistance(weight: u64, r: Resistance) -> Resistance
     Resistance(weight * r.0)
 }
 
+// Two resistances, one after the other.
+pub fn add_resistance(a: Resistance, b: Resistance) -> Resistance
+    requires { ⌜ a .0 + b .0 < 2 ^ 63 ⌝ }
+    ensures { λ r. ⌜ (r .0 ≡ a .0 + b .0) × (r .0 < 2 ^ 63) ⌝ }
+{
+    Resistance(a.0 + b.0)
+}
+
 // Two capacitances at one node.
 pub fn add_capacitance(a: Capacitance, b: Capacitance) -> Capacitance
     requires { ⌜ a .0 + b .0 < 2 ^ 63 ⌝ }
@@ -79,4 +89,12 @@ pub fn add_delay(a: Delay, b: Delay) -> Delay
     ensures { λ r. ⌜ (r .0 ≡ a .0 + b .0) × (r .0 < 2 ^ 63) ⌝ }
 {
     Delay(a.0 + b.0)
+}
+
+// Is the delay d below the least one so far and a margin? With a margin of 1 a tie is, too.
+pub fn beats(d: Delay, least: Delay, margin: u64) -> bool
+    requires { ⌜ least .0 + margin < 2 ^ 64 ⌝ }
+    ensures { λ r. ⌜ r ≡ ltb (d .0) (least .0 + margin) ⌝ }
+{
+    d.0 < least.0 + margin
 }

@@ -8,7 +8,7 @@ use lib.ListN.{replicate, length-replicate, getD-replicate}
 use borrow.Author.Needs.{needs}
 use native.Mathlib.Omega.{arith}
 use Prim.Native.Nat.{ℕ, suc, _+_, _-_, _≤_}
-use mathlib.Core.Path.{_≡_, refl, ap, _∙_}
+use mathlib.Core.Path.{_≡_, ap, _∙_}
 use Rattle.place.proofs.drive.Statement.{statement}
 use Rattle.place.proofs.drive.Tie as tie
 use Rattle.place.proofs.drive.Reads as reads
@@ -37,17 +37,17 @@ loop-holds c =
 sub-p : tie.Need-sub-p Inv-loop μ-loop
 sub-p c = search needs
 
-add-t13 : tie.Need-add-t13 Inv-loop μ-loop
-add-t13 c = search needs
+add-t15 : tie.Need-add-t15 Inv-loop μ-loop
+add-t15 c = search needs
 
-mul-t14 : tie.Need-mul-t14 Inv-loop μ-loop
-mul-t14 c =
+mul-t16 : tie.Need-mul-t16 Inv-loop μ-loop
+mul-t16 c =
     let b = c .before .before .before .before .before .before in
     let l = c .before .loop in
     omega (arith, l .inv .1, b .pre .0 .fewStages, b .pre .0 .fewSegments)
 
-array-read-t17 : tie.Need-array-read-t17 Inv-loop μ-loop
-array-read-t17 c =
+array-read-t19 : tie.Need-array-read-t19 Inv-loop μ-loop
+array-read-t19 c =
     let b = c .before .before .before .before .before .before in
     let l = c .before .loop in
     omega (arith, l .inv .1, b .pre .0 .fewStages, b .pre .0 .fewSegments)
@@ -114,31 +114,31 @@ hangs-at-requires c κs =
     let l = c .before .before .before .before .before .before .before .before .loop in
     (b .pre .0, omega (arith, l .inv .1))
 
-mul-gathered : tie.Need-mul-gathered Inv-loop μ-loop
-mul-gathered c =
+mul-t29 : tie.Need-mul-t29 Inv-loop μ-loop
+mul-t29 c =
     let b = c .before .before .before .before .before .before .before .before .before .before .before .before .before .before in
     let l = c .before .before .before .before .before .before .before .before .before .loop in
     omega (arith, c .hangs-at .ensures .1, l .inv .1, b .pre .0 .fewStages, b .pre .0 .fewSegments)
 
-array-read-gathered : tie.Need-array-read-gathered Inv-loop μ-loop
-array-read-gathered c =
+array-read-t32 : tie.Need-array-read-t32 Inv-loop μ-loop
+array-read-t32 c =
     let b = c .before .before .before .before .before .before .before .before .before .before .before .before .before .before in
     let l = c .before .before .before .before .before .before .before .before .before .loop in
     omega (arith, c .hangs-at .ensures .1, l .inv .1, b .pre .0 .fewStages, b .pre .0 .fewSegments)
 
-add-gathered : tie.Need-add-gathered Inv-loop μ-loop
-add-gathered c =
-    let b = c .before .before .before .before .before .before .before .before .before .before .before .before .before .before .before in
-    let l = c .before .before .before .before .before .before .before .before .before .before .loop in
+add-capacitance-requires-2 : tie.Need-add-capacitance-requires-2 Inv-loop μ-loop
+add-capacitance-requires-2 c κs =
+    let b = c .before .before .before .before .before .before .before .before .before .before .before .before .before .before in
+    let l = c .before .before .before .before .before .before .before .before .before .loop in
     let z : l .p - 1 + 1 ≡ suc (l .p - 1) = omega arith in
-    let v : c .before .before .before .before .before .before .before .add-capacitance .result .0 ≡ sinkAt (netBy (b .args .counts) (b .args .job .now)) (l .p - 1) + at (l .gathered) (suc (l .p - 1)) = rw (← z) (c .before .before .before .before .before .before .before .add-capacitance .ensures .0 ∙ ap (λ (w : ℕ). w + at (l .gathered) (l .p - 1 + 1)) (c .before .before .before .before .before .before .before .before .sink-at .ensures .0)) in
+    let v : c .before .before .before .before .before .before .add-capacitance .result .0 ≡ sinkAt (netBy (b .args .counts) (b .args .job .now)) (l .p - 1) + at (l .gathered) (suc (l .p - 1)) = rw (← z) (c .before .before .before .before .before .before .add-capacitance .ensures .0 ∙ ap (λ (w : ℕ). w + at (l .gathered) (l .p - 1 + 1)) (c .before .before .before .before .before .before .before .sink-at .ensures .0)) in
     let m = drives-small (netBy (b .args .counts) (b .args .job .now)) (ordered (b .pre .0)) (limited (b .pre .0)) (b .args .lower .now) (b .args .upper .now) (b .pre .1 .0) (l .p - 1) (omega (arith, l .inv .1)) (l .driven) (l .gathered) (let e : l .p ≡ suc (l .p - 1) = omega arith in rw e at (l .inv .0)) in
     let k = allowed-iff (netBy (b .args .counts) (b .args .job .now)) (b .args .lower .now) .0 (b .pre .1 .0) .high (l .p - 1) (omega (arith, l .inv .1)) in
-    let s = load-most (netBy (b .args .counts) (b .args .job .now)) (limited (b .pre .0)) (l .p - 1) (at (b .args .lower .now) (l .p - 1)) (c .before .before .before .before .before .before .before .add-capacitance .result .0) (omega (arith, l .inv .1)) k (omega arith) in
-    omega (arith, c .before .before .shown-load .ensures, gathers-small (netBy (b .args .counts) (b .args .job .now)) (ordered (b .pre .0)) (limited (b .pre .0)) (b .args .lower .now) (b .args .upper .now) (b .pre .1 .0) (l .p - 1) (omega (arith, l .inv .1)) (l .driven) (l .gathered) (let e : l .p ≡ suc (l .p - 1) = omega arith in rw e at (l .inv .0)) (c .before .hangs-at .result) (omega (arith, c .before .hangs-at .ensures .1, l .inv .1)))
+    let s = load-most (netBy (b .args .counts) (b .args .job .now)) (limited (b .pre .0)) (l .p - 1) (at (b .args .lower .now) (l .p - 1)) (c .before .before .before .before .before .before .add-capacitance .result .0) (omega (arith, l .inv .1)) k (omega arith) in
+    omega (arith, c .before .shown-load .ensures, gathers-small (netBy (b .args .counts) (b .args .job .now)) (ordered (b .pre .0)) (limited (b .pre .0)) (b .args .lower .now) (b .args .upper .now) (b .pre .1 .0) (l .p - 1) (omega (arith, l .inv .1)) (l .driven) (l .gathered) (let e : l .p ≡ suc (l .p - 1) = omega arith in rw e at (l .inv .0)) (c .hangs-at .result) (omega (arith, c .hangs-at .ensures .1, l .inv .1)))
 
-mul-gathered-2 : tie.Need-mul-gathered-2 Inv-loop μ-loop
-mul-gathered-2 c =
+mul-gathered : tie.Need-mul-gathered Inv-loop μ-loop
+mul-gathered c =
     let b = c .before .before .before .before .before .before .before .before .before .before .before .before .before .before .before in
     let l = c .before .before .before .before .before .before .before .before .before .before .loop in
     omega (arith, c .before .hangs-at .ensures .1, l .inv .1, b .pre .0 .fewStages, b .pre .0 .fewSegments)
@@ -158,7 +158,7 @@ loop-again c =
     let l = c .before .before .before .before .before .before .before .before .before .before .loop in
     let z : l .p - 1 + 1 ≡ suc (l .p - 1) = omega arith in
     let v : c .before .before .before .before .before .before .before .add-capacitance .result .0 ≡ sinkAt (netBy (b .args .counts) (b .args .job .now)) (l .p - 1) + at (l .gathered) (suc (l .p - 1)) = rw (← z) (c .before .before .before .before .before .before .before .add-capacitance .ensures .0 ∙ ap (λ (w : ℕ). w + at (l .gathered) (l .p - 1 + 1)) (c .before .before .before .before .before .before .before .before .sink-at .ensures .0)) in
-    (rw (c .before .hangs-at .ensures .0) (driving-held (netBy (b .args .counts) (b .args .job .now)) (ordered (b .pre .0)) (limited (b .pre .0)) (b .args .lower .now) (b .args .upper .now) (b .pre .1 .0) (l .p - 1) (omega (arith, l .inv .1)) (l .driven) (l .gathered) (let e : l .p ≡ suc (l .p - 1) = omega arith in rw e at (l .inv .0)) _ v _ _ (c .before .before .before .before .if1 .taken) (c .before .before .shown-load .ensures) refl), omega (arith, l .inv .1))
+    (rw (c .before .hangs-at .ensures .0) (driving-held (netBy (b .args .counts) (b .args .job .now)) (ordered (b .pre .0)) (limited (b .pre .0)) (b .args .lower .now) (b .args .upper .now) (b .pre .1 .0) (l .p - 1) (omega (arith, l .inv .1)) (l .driven) (l .gathered) (let e : l .p ≡ suc (l .p - 1) = omega arith in rw e at (l .inv .0)) _ v _ _ (c .before .before .before .before .if1 .taken) (c .before .before .shown-load .ensures) (c .add-capacitance2 .ensures .0 ∙ ap (λ (w : ℕ). at (l .gathered) w + c .before .before .shown-load .result .0) (c .before .hangs-at .ensures .0))), omega (arith, l .inv .1))
 
 loop-less-2 : tie.Need-loop-less-2 Inv-loop μ-loop
 loop-less-2 c = search needs
@@ -186,9 +186,9 @@ drive-spec =
     add-p
     loop-holds
     sub-p
-    add-t13
-    mul-t14
-    array-read-t17
+    add-t15
+    mul-t16
+    array-read-t19
     sink-at-requires
     add-capacitance-requires
     mul-driven
@@ -198,10 +198,10 @@ drive-spec =
     shared-slice-read-shown-load
     shown-load-requires
     hangs-at-requires
+    mul-t29
+    array-read-t32
+    add-capacitance-requires-2
     mul-gathered
-    array-read-gathered
-    add-gathered
-    mul-gathered-2
     array-write-gathered
     loop-less
     loop-again

@@ -39,19 +39,19 @@ returns-2 c =
     let b = c .before .before .before .before .before .before .before .before .before .before .before in
     c .before .before .slope .ensures .0 ∙ onward-stage (netBy (b .args .counts) (b .args .job .now)) (b .args .lower .now) (b .args .upper .now) (b .args .upstream .now) (b .args .a) (omega arith) (omega arith)
 
-mul-result : tie.Need-mul-result
-mul-result c = search needs
+mul-t14 : tie.Need-mul-t14
+mul-t14 c = search needs
 
-element-copy-out-result : tie.Need-element-copy-out-result
-element-copy-out-result c = search needs
+element-copy-out-t17 : tie.Need-element-copy-out-t17
+element-copy-out-t17 c = search needs
 
-add-result : tie.Need-add-result
-add-result c = search needs
+add-resistance-requires : tie.Need-add-resistance-requires
+add-resistance-requires c κs = search needs
 
 returns-3 : tie.Need-returns-3
 returns-3 c =
     let b = c .before .before .before .before .before .before .before .before .before .before .before .before .before in
-    omega (arith, c .before .before .before .before .slope .ensures .0, onward-segment (netBy (b .args .counts) (b .args .job .now)) (b .args .lower .now) (b .args .upper .now) (b .args .upstream .now) (b .args .a) (omega arith) (omega arith))
+    omega (arith, c .add-resistance .ensures .0, c .before .before .before .before .slope .ensures .0, onward-segment (netBy (b .args .counts) (b .args .job .now)) (b .args .lower .now) (b .args .upper .now) (b .args .upstream .now) (b .args .a) (omega arith) (omega arith))
 
 pub onward-spec : {M : Type 1} → statement M
 onward-spec =
@@ -65,7 +65,7 @@ onward-spec =
     shared-slice-read-slope
     slope-requires
     returns-2
-    mul-result
-    element-copy-out-result
-    add-result
+    mul-t14
+    element-copy-out-t17
+    add-resistance-requires
     returns-3)
