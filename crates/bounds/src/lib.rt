@@ -52,14 +52,17 @@ fn sweep(job: &[u8], counts: Counts, weights: &[u64; 68], x: &mut [u8], side: Si
     ensures { λ r. ⌜ Swept (sideOf side) (allowed (netBy counts (now (job .entry)))) (delay (netBy counts (now (job .entry)))) (now (x .entry)) (counts .stages + counts .segments) (now (x .exit)) r ⌝ }
 {
     let places = counts.stages + counts.segments;
+    // loads, by place
     let mut driven = [0u64; 68];
     place::drive(job, counts, x, x, &mut driven);
+    // weighted resistances, by place
     let mut upstream = [0u64; 68];
     let mut changed = false;
     let mut p = 0;
     while p < places {
         let before = x[p];
-        upstream[p] = place::upstream_at(job, counts, weights, x, x, &upstream, p);
+        let resistance = place::upstream_at(job, counts, weights, x, x, &upstream, p);
+        upstream[p] = resistance.0;
         refine::settle(
             job,
             counts,

@@ -74,8 +74,10 @@ fn refine_at(
 {
     let mut weights = [0u64; 68];
     weights::weigh(job, counts, first, next, &mut weights);
+    // loads, by place
     let mut driven = [0u64; 68];
     place::drive(job, counts, x, x, &mut driven);
+    // weighted resistances, by place
     let mut upstream = [0u64; 68];
     place::go_upstream(job, counts, &weights, x, x, &mut upstream, place + 1);
     refine::settle(

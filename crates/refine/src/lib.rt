@@ -58,7 +58,7 @@ pub fn settle(
     while k < top {
         k += 1;
         let d = place::step(job, counts, weight, before, place, k, driven).delay;
-        if d.0 < least.0 + tie {
+        if quantity::beats(d, least, tie) {
             least = d;
             best = k;
         }

@@ -41,8 +41,8 @@ module _ {c : Counts} {job weights upstream driven ups skips lower upper : List 
   pub load-value : at driven (left - 1) + at gathered (left - 1 + 1) ≡ drivenLoad (netBy c job) x (left - 1)
   load-value = rw (add-one (left - 1)) (load-is r (left - 1) few frees (found least lean wide) start)
 
-  pub load-most : at driven (left - 1) + at gathered (left - 1 + 1) ≤ 12900000
-  load-most = rw load-value (driven-small (netBy c job) (ordered (r .checked)) (limited (r .checked)) x (s .allowed) (left - 1) few)
+  pub load-most : (load : ℕ) → load ≡ at driven (left - 1) + at gathered (left - 1 + 1) → load ≤ 12900000
+  load-most load e = rw (e, load-value) (driven-small (netBy c job) (ordered (r .checked)) (limited (r .checked)) x (s .allowed) (left - 1) few)
 
   weight-value : at weights (left - 1) ≡ placeWeight (netBy c job) (left - 1)
   weight-value = r .weighed .held (left - 1) (omega arith) few
@@ -113,12 +113,18 @@ module _ {c : Counts} {job weights upstream driven ups skips lower upper : List 
   reached-value k = rw (weight-value, load-value)
 
   -- every index of the place gives a delay that fits
-  pub all-fit : (k : ℕ) → at lower (left - 1) ≤ k → k ≤ at upper (left - 1)
-      → added + stepDelay (netBy c job) (at weights (left - 1)) (at upstream (left - 1)) (left - 1) (at driven (left - 1) + at gathered (left - 1 + 1)) k < 2 ^ 63
-  all-fit k l h = reached-fits r (left - 1) few frees (found least lean wide) start (standing k l) h (reached k) (reached-value k)
+  pub all-fit : (load : ℕ) → load ≡ at driven (left - 1) + at gathered (left - 1 + 1) → (k : ℕ) → at lower (left - 1) ≤ k → k ≤ at upper (left - 1)
+      → added + stepDelay (netBy c job) (at weights (left - 1)) (at upstream (left - 1)) (left - 1) load k < 2 ^ 63
+  all-fit load e k l h = rw e (reached-fits r (left - 1) few frees (found least lean wide) start (standing k l) h (reached k) (reached-value k))
 
   pub top-high : at upper (left - 1) ≤ netBy c job .highest (left - 1)
   top-high = allowed-iff (netBy c job) upper .0 (r .upperAllowed) .high (left - 1) few
+
+  -- indices passed over by the load that the place drives
+  pub passed-by : (load : ℕ) → load ≡ at driven (left - 1) + at gathered (left - 1 + 1) → (k : ℕ)
+      → PassedTo (netBy c job) (at weights (left - 1)) (at upstream (left - 1)) (left - 1) load added least (at lower (left - 1)) (at upper (left - 1)) k
+      → PassedTo (netBy c job) (at weights (left - 1)) (at upstream (left - 1)) (left - 1) (at driven (left - 1) + at gathered (left - 1 + 1)) added least (at lower (left - 1)) (at upper (left - 1)) k
+  passed-by load e k p = rw e at p
 
   -- the indices that are passed over are done with
   pub passed-to : at skips (left - 1) ≡ 0 → (k : ℕ)
@@ -143,14 +149,15 @@ module _ {c : Counts} {job weights upstream driven ups skips lower upper : List 
     pub high : k ≤ netBy c job .highest (left - 1)
     high = highs r (left - 1) few frees (found least lean wide) start (stands t) inside
 
-    module _ (step : PlaceStep) (of : StepOf (netBy c job) (at weights (left - 1)) (at upstream (left - 1)) (left - 1) k (at driven (left - 1) + at gathered (left - 1 + 1)) step) where
+    module _ (load : ℕ) (drives : load ≡ at driven (left - 1) + at gathered (left - 1 + 1))
+        (step : PlaceStep) (of : StepOf (netBy c job) (at weights (left - 1)) (at upstream (left - 1)) (left - 1) k load step) where
       step-delay : added + step .delay .0
           ≡ added + (placeWeight (netBy c job) (left - 1) * delayAt (netBy c job) (left - 1) k (drivenLoad (netBy c job) x (left - 1))
           + at upstream (left - 1) * loadAt (netBy c job) (left - 1) k (drivenLoad (netBy c job) x (left - 1)))
-      step-delay = ap (λ (v : ℕ). added + v) (of .delay ∙ rw (weight-value, load-value))
+      step-delay = ap (λ (v : ℕ). added + v) (of .delay ∙ rw (drives, weight-value, load-value))
 
       step-load : step .load .0 ≡ loadAt (netBy c job) (left - 1) k (drivenLoad (netBy c job) x (left - 1))
-      step-load = of .load ∙ rw load-value
+      step-load = of .load ∙ rw (drives, load-value)
 
       pub shown-small : step .load .0 ≤ 13000000
       shown-small = rw step-load (place-load-most (netBy c job) (limited (r .checked)) (left - 1) k (drivenLoad (netBy c job) x (left - 1)) few high

@@ -172,7 +172,7 @@ fn take_from(
     let p = left - 1;
     let weight = weights[p];
     let before = Resistance(upstream[p]);
-    let load = Capacitance(driven[p] + gathered[p + 1]);
+    let load = quantity::add_capacitance(Capacitance(driven[p]), Capacitance(gathered[p + 1]));
     let top = upper[p];
     let mut k = start;
     let mut best = least;
@@ -220,9 +220,9 @@ fn search(
     let further = skips[next];
     let weight = weights[p];
     let before = Resistance(upstream[p]);
-    let load = Capacitance(driven[p] + gathered[p + 1]);
+    let load = quantity::add_capacitance(Capacitance(driven[p]), Capacitance(gathered[p + 1]));
     let node = ups[p];
-    let others = gathered[node];
+    let others = Capacitance(gathered[node]);
     let top = upper[p];
     let mut k = lower[p];
     let mut best = least;
@@ -231,16 +231,19 @@ fn search(
         let reached = quantity::add_delay(added, step.delay);
         let shown = step.load;
         x[p] = k;
-        gathered[node] = others + shown.0;
+        let all = quantity::add_capacitance(others, shown);
+        gathered[node] = all.0;
         k += 1;
         if further == 0 {
+            let here = Capacitance(driven[next]);
+            let arrived = Capacitance(gathered[next + 1]);
             let first = pass_over(
                 job,
                 counts,
                 weights[next],
                 Resistance(upstream[next]),
                 next,
-                Capacitance(driven[next] + gathered[next + 1]),
+                quantity::add_capacitance(here, arrived),
                 reached,
                 best,
                 lower[next],
@@ -288,7 +291,7 @@ fn search(
             );
         }
     }
-    gathered[node] = others;
+    gathered[node] = others.0;
     best
 }
 
@@ -318,6 +321,7 @@ fn start(
     if left == 0 {
         return envelope::keep(x, fixed, least, lean, wide);
     }
+    // loads, by node
     let mut gathered = [0u64; 69];
     if skips[left - 1] == 0 {
         return take_from(
@@ -377,13 +381,17 @@ pub fn between(
     requires { ⌜ (length (now lean) ≡ counts .stages + counts .segments) × (length (now wide) ≡ counts .stages + counts .segments) ⌝ }
     ensures { λ r. ⌜ found (r .0) (now (lean .exit)) (now (wide .exit)) ≡ takes (delay (netBy counts (now (job .entry)))) (cover (now (lower .entry)) (now (upper .entry)) (counts .stages + counts .segments) (now (lower .entry))) (found (least .0) (now (lean .entry)) (now (wide .entry))) ⌝ }
 {
+    // loads, by place
     let mut driven = [0u64; 68];
     place::drive(job, counts, lower, upper, &mut driven);
+    // weighted resistances, by place
     let mut upstream = [0u64; 68];
     let places = counts.stages + counts.segments;
     place::go_upstream(job, counts, weights, lower, upper, &mut upstream, places);
+    // nodes, by place
     let mut ups = [0usize; 68];
     lift(job, counts, lower, upper, &mut ups);
+    // counts of places
     let mut skips = [0usize; 69];
     skip(job, counts, lower, upper, &mut skips);
     start(

@@ -67,8 +67,8 @@ mul-t27 c =
     let l = c .before .before .before .before .before .before .loop in
     omega (arith, l .inv .upTo, b .pre .0 .fewStages, b .pre .0 .fewSegments)
 
-array-read-t21 : tie.Need-array-read-t21 Inv-loop μ-loop
-array-read-t21 c =
+array-read-t34 : tie.Need-array-read-t34 Inv-loop μ-loop
+array-read-t34 c =
     let b = c .before .before .before .before .before .before .before .before .before .before .before .before .before in
     let l = c .before .before .before .before .before .before .loop in
     omega (arith, c .before .before .before .before .before .loop-test .taken, b .pre .0 .fewStages, b .pre .0 .fewSegments)
@@ -127,7 +127,7 @@ sweep-spec =
     mul-upstream
     array-write-upstream
     mul-t27
-    array-read-t21
+    array-read-t34
     settle-requires
     slice-read-changed
     add-p

@@ -10,7 +10,8 @@ use lib.ListN.{length-set}
 use borrow.Author.Needs.{needs}
 use native.Mathlib.Omega.{arith}
 use Prim.Native.Nat.{_-_, _^_, _<_}
-use mathlib.Core.Path.{ap, _∙_}
+use borrow.Author.Tests.{ltb-true, ltb-false}
+use mathlib.Core.Path.{sym, ap, _∙_}
 use Rattle.refine.proofs.settle.Statement.{statement}
 use Rattle.refine.proofs.settle.Tie as tie
 use Rattle.refine.proofs.settle.Reads as reads
@@ -19,6 +20,7 @@ use Rattle.job.proofs.highest.Reads as highest-reads
 use Rattle.job.proofs.lowest.Reads as lowest-reads
 use Rattle.place.proofs.step.Reads as step-reads
 use Rattle.refine.proofs.margin.Reads as margin-reads
+use Rattle.quantity.proofs.beats.Reads as beats-reads
 
 abbrev Inv-loop : tie.InvT-loop
 Inv-loop job counts weights upstream driven x place weight before tie top k₀ best₀ least₀ k best least =
@@ -80,30 +82,30 @@ step-requires-2 c κs =
     let f = figures-small (netBy (b .args .counts) (b .args .job .now)) (ordered (b .pre .0)) (limited (b .pre .0)) (b .args .weights .now) (b .args .upstream .now) (b .args .x .now) (b .pre .1 .0) (b .pre .1 .1 .0) (b .args .place) (b .args .driven .0) (b .pre .1 .1 .1 .0) (b .pre .1 .1 .1 .1 .0) (b .pre .1 .1 .1 .1 .1) in
     (b .pre .0, (b .pre .1 .1 .1 .0, omega (arith, c .loop-test .taken, c .before .before .before .before .before .highest .ensures), f .0, f .1, f .2))
 
-add-if1 : tie.Need-add-if1 Inv-loop μ-loop
-add-if1 c =
-    let b = c .before .before .before .before .before .before .before .before .before .before .before .before .before .before in
-    omega (arith, c .before .before .before .before .loop .inv .1, sided-margin (b .args .side) .0, c .before .before .before .before .before .before .before .before .before .margin .ensures)
+beats-requires : tie.Need-beats-requires Inv-loop μ-loop
+beats-requires c κs =
+    let b = c .before .before .before .before .before .before .before .before .before .before .before .before .before in
+    omega (arith, c .before .before .before .loop .inv .1, sided-margin (b .args .side) .0, c .before .before .before .before .before .before .before .before .margin .ensures)
 
 loop-less : tie.Need-loop-less Inv-loop μ-loop
-loop-less c = omega (arith, c .before .before .before .before .before .loop-test .taken)
+loop-less c = omega (arith, c .before .before .before .before .loop-test .taken)
 
 loop-again : tie.Need-loop-again Inv-loop μ-loop
 loop-again c =
-    let b = c .before .before .before .before .before .before .before .before .before .before .before .before .before .before .before .before in
-    let l = c .before .before .before .before .before .before .loop in
+    let b = c .before .before .before .before .before .before .before .before .before .before .before .before .before .before .before in
+    let l = c .before .before .before .before .before .loop in
     let o = sided-margin (b .args .side) .0 in
-    (scanning-take (netBy (b .args .counts) (b .args .job .now)) (c .before .before .before .before .before .before .before .before .before .before .before .margin .result) (b .args .x .now) (b .pre .1 .1 .0) (b .args .place) (b .pre .1 .1 .1 .0) _ (cost-trades (netBy (b .args .counts) (b .args .job .now)) (ordered (b .pre .0)) (limited (b .pre .0)) (b .args .weights .now) (b .args .upstream .now) (b .args .x .now) (b .pre .1 .0) (b .pre .1 .1 .0) (b .args .place) (b .args .driven .0) (b .pre .1 .1 .1 .0) (b .pre .1 .1 .1 .1 .0) (b .pre .1 .1 .1 .1 .1)) (l .k) (l .best) (l .least .0) (l .inv .0) (omega (arith, c .before .before .before .before .before .loop-test .taken, c .before .before .before .before .before .before .before .before .before .before .highest .ensures)) (c .before .before .before .before .step2 .result .delay .0) (c .before .before .before .before .step2 .ensures .delay) (omega (arith, o, c .before .before .before .before .before .before .before .before .before .before .before .margin .ensures)) (omega (arith, c .if1 .taken)), c .before .before .before .before .step2 .ensures .fits)
+    (scanning-take (netBy (b .args .counts) (b .args .job .now)) (c .before .before .before .before .before .before .before .before .before .before .margin .result) (b .args .x .now) (b .pre .1 .1 .0) (b .args .place) (b .pre .1 .1 .1 .0) _ (cost-trades (netBy (b .args .counts) (b .args .job .now)) (ordered (b .pre .0)) (limited (b .pre .0)) (b .args .weights .now) (b .args .upstream .now) (b .args .x .now) (b .pre .1 .0) (b .pre .1 .1 .0) (b .args .place) (b .args .driven .0) (b .pre .1 .1 .1 .0) (b .pre .1 .1 .1 .1 .0) (b .pre .1 .1 .1 .1 .1)) (l .k) (l .best) (l .least .0) (l .inv .0) (omega (arith, c .before .before .before .before .loop-test .taken, c .before .before .before .before .before .before .before .before .before .highest .ensures)) (c .before .before .before .step2 .result .delay .0) (c .before .before .before .step2 .ensures .delay) (omega (arith, o, c .before .before .before .before .before .before .before .before .before .before .margin .ensures)) (ltb-true _ _ (sym (c .before .beats .ensures) ∙ c .if1 .taken)), c .before .before .before .step2 .ensures .fits)
 
 loop-less-2 : tie.Need-loop-less-2 Inv-loop μ-loop
-loop-less-2 c = omega (arith, c .before .before .before .before .before .loop-test .taken)
+loop-less-2 c = omega (arith, c .before .before .before .before .loop-test .taken)
 
 loop-again-2 : tie.Need-loop-again-2 Inv-loop μ-loop
 loop-again-2 c =
-    let b = c .before .before .before .before .before .before .before .before .before .before .before .before .before .before .before .before in
-    let l = c .before .before .before .before .before .before .loop in
+    let b = c .before .before .before .before .before .before .before .before .before .before .before .before .before .before .before in
+    let l = c .before .before .before .before .before .loop in
     let o = sided-margin (b .args .side) .0 in
-    (scanning-keep (netBy (b .args .counts) (b .args .job .now)) (c .before .before .before .before .before .before .before .before .before .before .before .margin .result) (b .args .x .now) (b .pre .1 .1 .0) (b .args .place) (b .pre .1 .1 .1 .0) _ (cost-trades (netBy (b .args .counts) (b .args .job .now)) (ordered (b .pre .0)) (limited (b .pre .0)) (b .args .weights .now) (b .args .upstream .now) (b .args .x .now) (b .pre .1 .0) (b .pre .1 .1 .0) (b .args .place) (b .args .driven .0) (b .pre .1 .1 .1 .0) (b .pre .1 .1 .1 .1 .0) (b .pre .1 .1 .1 .1 .1)) (l .k) (l .best) (l .least .0) (l .inv .0) (omega (arith, c .before .before .before .before .before .loop-test .taken, c .before .before .before .before .before .before .before .before .before .before .highest .ensures)) (c .before .before .before .before .step2 .result .delay .0) (c .before .before .before .before .step2 .ensures .delay) (omega (arith, o, c .before .before .before .before .before .before .before .before .before .before .before .margin .ensures)) (omega (arith, c .if1 .left)), l .inv .1)
+    (scanning-keep (netBy (b .args .counts) (b .args .job .now)) (c .before .before .before .before .before .before .before .before .before .before .margin .result) (b .args .x .now) (b .pre .1 .1 .0) (b .args .place) (b .pre .1 .1 .1 .0) _ (cost-trades (netBy (b .args .counts) (b .args .job .now)) (ordered (b .pre .0)) (limited (b .pre .0)) (b .args .weights .now) (b .args .upstream .now) (b .args .x .now) (b .pre .1 .0) (b .pre .1 .1 .0) (b .args .place) (b .args .driven .0) (b .pre .1 .1 .1 .0) (b .pre .1 .1 .1 .1 .0) (b .pre .1 .1 .1 .1 .1)) (l .k) (l .best) (l .least .0) (l .inv .0) (omega (arith, c .before .before .before .before .loop-test .taken, c .before .before .before .before .before .before .before .before .before .highest .ensures)) (c .before .before .before .step2 .result .delay .0) (c .before .before .before .step2 .ensures .delay) (omega (arith, o, c .before .before .before .before .before .before .before .before .before .before .margin .ensures)) (ltb-false _ _ (sym (c .before .beats .ensures) ∙ c .if1 .left)), l .inv .1)
 
 slice-write-x : tie.Need-slice-write-x Inv-loop μ-loop
 slice-write-x c =
@@ -137,7 +139,7 @@ settle-spec =
     loop-holds
     add-k
     step-requires-2
-    add-if1
+    beats-requires
     loop-less
     loop-again
     loop-less-2

@@ -1,6 +1,6 @@
 -- `search::search` meets its contract: the loop has the sizings with the indices passed, and each call has fewer places left.
 use Rattle.net.proofs.Questions.{allowed-long}
-use Rattle.search.proofs.Calls.{few, load-most, weight-most, resistance-most, node-low, others-small, rest-low, rest-free, small, begin, top-high, all-fit, passed-to, high, shown-small, fits, ready, done, ended}
+use Rattle.search.proofs.Calls.{few, load-most, weight-most, resistance-most, node-low, others-small, rest-low, rest-free, small, begin, top-high, all-fit, passed-by, passed-to, high, shown-small, fits, ready, done, ended}
 use Rattle.search.proofs.Turns.{Turning}
 use Rattle.envelope.specs.Kept.{found}
 use Rattle.net.specs.Net.{netBy}
@@ -17,6 +17,7 @@ use Rattle.search.proofs.search.Reads as search′
 use Rattle.search.proofs.search.Kinds as search-kinds
 use Rattle.search.proofs.+search.Lts-search as search-lts
 use Rattle.place.proofs.step.Reads as step-reads
+use Rattle.quantity.proofs.add_capacitance.Reads as add-capacitance-reads
 use Rattle.quantity.proofs.add_delay.Reads as add-delay-reads
 use Rattle.search.proofs.pass_over.Reads as pass-over-reads
 use Rattle.search.proofs.take_from.Reads as take-from-reads
@@ -35,6 +36,8 @@ search-below t = and 12 search-kinds.ps (falls 12 search-kinds.ps _<_ μ-search 
 -- what each callee asks and tells
 abbrev search-claims : ℕ → search-lts.Claims
 search-claims t = (
+  add-capacitance-reads.Asked,
+  add-capacitance-reads.Learnt,
   step-reads.Asked,
   step-reads.Learnt,
   add-delay-reads.Asked,
@@ -94,247 +97,248 @@ search-element-copy-out-weight t c =
     let b = c .before .before .before .before .before .before .before .before in
     omega (arith, b .pre .1 .1 .0 .few, b .pre .1 .1 .1 .0, b .pre .1 .0 .checked .fewStages, b .pre .1 .0 .checked .fewSegments)
 
-search-mul-others : (t : ℕ) → search-lts.Need-mul-others (search-claims t) (search-at t) search′.Post search-Inv-loop search-μ-loop
-search-mul-others t c =
+search-mul-t39 : (t : ℕ) → search-lts.Need-mul-t39 (search-claims t) (search-at t) search′.Post search-Inv-loop search-μ-loop
+search-mul-t39 t c =
     let b = c .before .before .before .before .before .before .before .before .before in
     omega (arith, b .pre .1 .1 .0 .few, b .pre .1 .1 .1 .0, b .pre .1 .0 .checked .fewStages, b .pre .1 .0 .checked .fewSegments)
 
-search-element-copy-out-others : (t : ℕ) → search-lts.Need-element-copy-out-others (search-claims t) (search-at t) search′.Post search-Inv-loop search-μ-loop
-search-element-copy-out-others t c =
+search-element-copy-out-t44 : (t : ℕ) → search-lts.Need-element-copy-out-t44 (search-claims t) (search-at t) search′.Post search-Inv-loop search-μ-loop
+search-element-copy-out-t44 t c =
     let b = c .before .before .before .before .before .before .before .before .before in
     omega (arith, b .pre .1 .1 .0 .few, b .pre .1 .1 .1 .0, b .pre .1 .0 .checked .fewStages, b .pre .1 .0 .checked .fewSegments)
 
-search-mul-others-2 : (t : ℕ) → search-lts.Need-mul-others-2 (search-claims t) (search-at t) search′.Post search-Inv-loop search-μ-loop
-search-mul-others-2 t c =
+search-mul-t36 : (t : ℕ) → search-lts.Need-mul-t36 (search-claims t) (search-at t) search′.Post search-Inv-loop search-μ-loop
+search-mul-t36 t c =
     let b = c .before .before .before .before .before .before .before .before .before .before in
     omega (arith, b .pre .1 .1 .0 .few, b .pre .1 .1 .1 .0, b .pre .1 .0 .checked .fewStages, b .pre .1 .0 .checked .fewSegments)
 
-search-element-copy-out-others-2 : (t : ℕ) → search-lts.Need-element-copy-out-others-2 (search-claims t) (search-at t) search′.Post search-Inv-loop search-μ-loop
-search-element-copy-out-others-2 t c =
+search-element-copy-out-t44-2 : (t : ℕ) → search-lts.Need-element-copy-out-t44-2 (search-claims t) (search-at t) search′.Post search-Inv-loop search-μ-loop
+search-element-copy-out-t44-2 t c =
     let b = c .before .before .before .before .before .before .before .before .before .before in
     omega (arith, b .pre .1 .1 .0 .few, b .pre .1 .1 .1 .0, b .pre .1 .0 .checked .fewStages, b .pre .1 .0 .checked .fewSegments)
 
-search-add-others : (t : ℕ) → search-lts.Need-add-others (search-claims t) (search-at t) search′.Post search-Inv-loop search-μ-loop
-search-add-others t c =
+search-add-t39 : (t : ℕ) → search-lts.Need-add-t39 (search-claims t) (search-at t) search′.Post search-Inv-loop search-μ-loop
+search-add-t39 t c =
     let b = c .before .before .before .before .before .before .before .before .before .before .before in
     omega (arith, b .pre .1 .1 .0 .few, b .pre .1 .1 .1 .0, b .pre .1 .0 .checked .fewStages, b .pre .1 .0 .checked .fewSegments)
 
-search-mul-others-3 : (t : ℕ) → search-lts.Need-mul-others-3 (search-claims t) (search-at t) search′.Post search-Inv-loop search-μ-loop
-search-mul-others-3 t c =
+search-mul-t50 : (t : ℕ) → search-lts.Need-mul-t50 (search-claims t) (search-at t) search′.Post search-Inv-loop search-μ-loop
+search-mul-t50 t c =
     let b = c .before .before .before .before .before .before .before .before .before .before .before in
     omega (arith, b .pre .1 .1 .0 .few, b .pre .1 .1 .1 .0, b .pre .1 .0 .checked .fewStages, b .pre .1 .0 .checked .fewSegments)
 
-search-element-copy-out-others-3 : (t : ℕ) → search-lts.Need-element-copy-out-others-3 (search-claims t) (search-at t) search′.Post search-Inv-loop search-μ-loop
-search-element-copy-out-others-3 t c =
+search-element-copy-out-t53 : (t : ℕ) → search-lts.Need-element-copy-out-t53 (search-claims t) (search-at t) search′.Post search-Inv-loop search-μ-loop
+search-element-copy-out-t53 t c =
     let b = c .before .before .before .before .before .before .before .before .before .before .before in
     omega (arith, b .pre .1 .1 .0 .few, b .pre .1 .1 .1 .0, b .pre .1 .0 .checked .fewStages, b .pre .1 .0 .checked .fewSegments)
 
-search-add-others-2 : (t : ℕ) → search-lts.Need-add-others-2 (search-claims t) (search-at t) search′.Post search-Inv-loop search-μ-loop
-search-add-others-2 t c =
+search-add-capacitance-requires : (t : ℕ) → search-lts.Need-add-capacitance-requires (search-claims t) (search-at t) search′.Post search-Inv-loop search-μ-loop
+search-add-capacitance-requires t c κs =
     let b = c .before .before .before .before .before .before .before .before .before .before .before .before in
-    omega (arith, load-most (b .pre .1 .0) (b .pre .1 .1 .0) (b .args .least .0) (b .pre .1 .1 .1 .0) (b .pre .1 .1 .1 .1))
+    omega (arith, load-most (b .pre .1 .0) (b .pre .1 .1 .0) (b .args .least .0) (b .pre .1 .1 .1 .0) (b .pre .1 .1 .1 .1) _ refl)
 
 search-mul-node : (t : ℕ) → search-lts.Need-mul-node (search-claims t) (search-at t) search′.Post search-Inv-loop search-μ-loop
 search-mul-node t c =
-    let b = c .before .before .before .before .before .before .before .before .before .before .before .before in
+    let b = c .before .before .before .before .before .before .before .before .before .before .before .before .before in
     omega (arith, b .pre .1 .1 .0 .few, b .pre .1 .1 .1 .0, b .pre .1 .0 .checked .fewStages, b .pre .1 .0 .checked .fewSegments)
 
 search-element-copy-out-node : (t : ℕ) → search-lts.Need-element-copy-out-node (search-claims t) (search-at t) search′.Post search-Inv-loop search-μ-loop
 search-element-copy-out-node t c =
-    let b = c .before .before .before .before .before .before .before .before .before .before .before .before in
+    let b = c .before .before .before .before .before .before .before .before .before .before .before .before .before in
     omega (arith, b .pre .1 .1 .0 .few, b .pre .1 .1 .1 .0, b .pre .1 .0 .checked .fewStages, b .pre .1 .0 .checked .fewSegments)
 
-search-mul-others-4 : (t : ℕ) → search-lts.Need-mul-others-4 (search-claims t) (search-at t) search′.Post search-Inv-loop search-μ-loop
-search-mul-others-4 t c =
-    let b = c .before .before .before .before .before .before .before .before .before .before .before .before .before in
+search-mul-t50-2 : (t : ℕ) → search-lts.Need-mul-t50-2 (search-claims t) (search-at t) search′.Post search-Inv-loop search-μ-loop
+search-mul-t50-2 t c =
+    let b = c .before .before .before .before .before .before .before .before .before .before .before .before .before .before in
     omega (arith, node-low (b .pre .1 .0) (b .pre .1 .1 .0) (b .args .least .0) (b .pre .1 .1 .1 .0) (b .pre .1 .1 .1 .1), b .pre .1 .1 .0 .few, b .pre .1 .1 .1 .0, b .pre .1 .0 .checked .fewStages, b .pre .1 .0 .checked .fewSegments)
 
-search-element-copy-out-others-4 : (t : ℕ) → search-lts.Need-element-copy-out-others-4 (search-claims t) (search-at t) search′.Post search-Inv-loop search-μ-loop
-search-element-copy-out-others-4 t c =
-    let b = c .before .before .before .before .before .before .before .before .before .before .before .before .before in
+search-element-copy-out-t44-3 : (t : ℕ) → search-lts.Need-element-copy-out-t44-3 (search-claims t) (search-at t) search′.Post search-Inv-loop search-μ-loop
+search-element-copy-out-t44-3 t c =
+    let b = c .before .before .before .before .before .before .before .before .before .before .before .before .before .before in
     omega (arith, node-low (b .pre .1 .0) (b .pre .1 .1 .0) (b .args .least .0) (b .pre .1 .1 .1 .0) (b .pre .1 .1 .1 .1), b .pre .1 .1 .0 .few, b .pre .1 .1 .1 .0, b .pre .1 .0 .checked .fewStages, b .pre .1 .0 .checked .fewSegments)
 
 search-shared-slice-read-top : (t : ℕ) → search-lts.Need-shared-slice-read-top (search-claims t) (search-at t) search′.Post search-Inv-loop search-μ-loop
 search-shared-slice-read-top t c =
-    let b = c .before .before .before .before .before .before .before .before .before .before .before .before .before .before .before in
+    let b = c .before .before .before .before .before .before .before .before .before .before .before .before .before .before .before .before in
     omega (arith, b .pre .1 .1 .0 .few, b .pre .1 .1 .1 .0, allowed-long (netBy (b .args .counts) (b .args .job .now)) (b .args .upper .now) (b .pre .1 .0 .upperAllowed))
 
 search-shared-slice-read-k : (t : ℕ) → search-lts.Need-shared-slice-read-k (search-claims t) (search-at t) search′.Post search-Inv-loop search-μ-loop
 search-shared-slice-read-k t c =
-    let b = c .before .before .before .before .before .before .before .before .before .before .before .before .before .before .before .before in
+    let b = c .before .before .before .before .before .before .before .before .before .before .before .before .before .before .before .before .before in
     omega (arith, b .pre .1 .1 .0 .few, b .pre .1 .1 .1 .0, allowed-long (netBy (b .args .counts) (b .args .job .now)) (b .args .lower .now) (b .pre .1 .0 .lowerAllowed))
 
 search-loop-holds : (t : ℕ) → search-lts.Need-loop-holds (search-claims t) (search-at t) search′.Post search-Inv-loop search-μ-loop
 search-loop-holds t c =
-    let b = c .before .before .before .before .before .before .before .before .before .before .before .before .before .before .before .before in
+    let b = c .before .before .before .before .before .before .before .before .before .before .before .before .before .before .before .before .before in
     (begin (b .pre .1 .0) (b .pre .1 .1 .0) (b .args .least .0) (b .pre .1 .1 .1 .0) (b .pre .1 .1 .1 .1), λ v. refl)
 
 search-step-requires : (t : ℕ) → search-lts.Need-step-requires (search-claims t) (search-at t) search′.Post search-Inv-loop search-μ-loop
 search-step-requires t c κs =
-    let b = c .before .before .before .before .before .before .before .before .before .before .before .before .before .before .before .before .before .before in
+    let b = c .before .before .before .before .before .before .before .before .before .before .before .before .before .before .before .before .before .before .before in
     let l = c .before .loop in
-    (b .pre .1 .0 .checked, (few (b .pre .1 .0) (b .pre .1 .1 .0) (b .args .least .0) (b .pre .1 .1 .1 .0) (b .pre .1 .1 .1 .1), high (b .pre .1 .0) (b .pre .1 .1 .0) (b .args .least .0) (b .pre .1 .1 .1 .0) (b .pre .1 .1 .1 .1) (l .inv .0) (c .loop-test .taken), weight-most (b .pre .1 .0) (b .pre .1 .1 .0) (b .args .least .0) (b .pre .1 .1 .1 .0) (b .pre .1 .1 .1 .1), resistance-most (b .pre .1 .0) (b .pre .1 .1 .0) (b .args .least .0) (b .pre .1 .1 .1 .0) (b .pre .1 .1 .1 .1), load-most (b .pre .1 .0) (b .pre .1 .1 .0) (b .args .least .0) (b .pre .1 .1 .1 .0) (b .pre .1 .1 .1 .1)))
+    (b .pre .1 .0 .checked, (few (b .pre .1 .0) (b .pre .1 .1 .0) (b .args .least .0) (b .pre .1 .1 .1 .0) (b .pre .1 .1 .1 .1), high (b .pre .1 .0) (b .pre .1 .1 .0) (b .args .least .0) (b .pre .1 .1 .1 .0) (b .pre .1 .1 .1 .1) (l .inv .0) (c .loop-test .taken), weight-most (b .pre .1 .0) (b .pre .1 .1 .0) (b .args .least .0) (b .pre .1 .1 .1 .0) (b .pre .1 .1 .1 .1), resistance-most (b .pre .1 .0) (b .pre .1 .1 .0) (b .args .least .0) (b .pre .1 .1 .1 .0) (b .pre .1 .1 .1 .1), load-most (b .pre .1 .0) (b .pre .1 .1 .0) (b .args .least .0) (b .pre .1 .1 .1 .0) (b .pre .1 .1 .1 .1) _ (c .before .before .before .before .before .before .add-capacitance .ensures .0)))
 
 search-add-delay-requires : (t : ℕ) → search-lts.Need-add-delay-requires (search-claims t) (search-at t) search′.Post search-Inv-loop search-μ-loop
 search-add-delay-requires t c κs =
-    let b = c .before .before .before .before .before .before .before .before .before .before .before .before .before .before .before .before .before .before .before in
+    let b = c .before .before .before .before .before .before .before .before .before .before .before .before .before .before .before .before .before .before .before .before in
     let l = c .before .before .loop in
-    fits (b .pre .1 .0) (b .pre .1 .1 .0) (b .args .least .0) (b .pre .1 .1 .1 .0) (b .pre .1 .1 .1 .1) (l .inv .0) (c .before .loop-test .taken) (c .step .result) (c .step .ensures)
+    fits (b .pre .1 .0) (b .pre .1 .1 .0) (b .args .least .0) (b .pre .1 .1 .1 .0) (b .pre .1 .1 .1 .1) (l .inv .0) (c .before .loop-test .taken) _ (c .before .before .before .before .before .before .before .add-capacitance .ensures .0) (c .step .result) (c .step .ensures)
 
 search-slice-write-x : (t : ℕ) → search-lts.Need-slice-write-x (search-claims t) (search-at t) search′.Post search-Inv-loop search-μ-loop
 search-slice-write-x t c =
-    let b = c .before .before .before .before .before .before .before .before .before .before .before .before .before .before .before .before .before .before .before .before .before in
+    let b = c .before .before .before .before .before .before .before .before .before .before .before .before .before .before .before .before .before .before .before .before .before .before in
     let l = c .before .before .before .before .loop in
     omega (arith, b .pre .1 .1 .0 .few, b .pre .1 .1 .1 .0, allowed-long (netBy (b .args .counts) (b .args .job .now)) (l .x) (l .inv .0 .allowed))
 
-search-add-gathered : (t : ℕ) → search-lts.Need-add-gathered (search-claims t) (search-at t) search′.Post search-Inv-loop search-μ-loop
-search-add-gathered t c =
+search-add-capacitance-requires-2 : (t : ℕ) → search-lts.Need-add-capacitance-requires-2 (search-claims t) (search-at t) search′.Post search-Inv-loop search-μ-loop
+search-add-capacitance-requires-2 t c κs =
     let b = c .before .before .before .before .before .before .before .before .before .before .before .before .before .before .before .before .before .before .before .before .before .before in
-    let l = c .before .before .before .before .before .loop in
-    omega (arith, others-small (b .pre .1 .0) (b .pre .1 .1 .0) (b .args .least .0) (b .pre .1 .1 .1 .0) (b .pre .1 .1 .1 .1), shown-small (b .pre .1 .0) (b .pre .1 .1 .0) (b .args .least .0) (b .pre .1 .1 .1 .0) (b .pre .1 .1 .1 .1) (l .inv .0) (c .before .before .before .before .loop-test .taken) (c .before .before .before .step .result) (c .before .before .before .step .ensures))
+    let l = c .before .before .before .before .loop in
+    omega (arith, others-small (b .pre .1 .0) (b .pre .1 .1 .0) (b .args .least .0) (b .pre .1 .1 .1 .0) (b .pre .1 .1 .1 .1), shown-small (b .pre .1 .0) (b .pre .1 .1 .0) (b .args .least .0) (b .pre .1 .1 .1 .0) (b .pre .1 .1 .1 .1) (l .inv .0) (c .before .before .before .loop-test .taken) _ (c .before .before .before .before .before .before .before .before .before .add-capacitance .ensures .0) (c .before .before .step .result) (c .before .before .step .ensures))
 
 search-mul-gathered : (t : ℕ) → search-lts.Need-mul-gathered (search-claims t) (search-at t) search′.Post search-Inv-loop search-μ-loop
 search-mul-gathered t c =
-    let b = c .before .before .before .before .before .before .before .before .before .before .before .before .before .before .before .before .before .before .before .before .before .before in
+    let b = c .before .before .before .before .before .before .before .before .before .before .before .before .before .before .before .before .before .before .before .before .before .before .before in
     omega (arith, node-low (b .pre .1 .0) (b .pre .1 .1 .0) (b .args .least .0) (b .pre .1 .1 .1 .0) (b .pre .1 .1 .1 .1), b .pre .1 .1 .0 .few, b .pre .1 .1 .1 .0, b .pre .1 .0 .checked .fewStages, b .pre .1 .0 .checked .fewSegments)
 
 search-element-write-gathered : (t : ℕ) → search-lts.Need-element-write-gathered (search-claims t) (search-at t) search′.Post search-Inv-loop search-μ-loop
 search-element-write-gathered t c =
-    let b = c .before .before .before .before .before .before .before .before .before .before .before .before .before .before .before .before .before .before .before .before .before .before in
+    let b = c .before .before .before .before .before .before .before .before .before .before .before .before .before .before .before .before .before .before .before .before .before .before .before in
     omega (arith, node-low (b .pre .1 .0) (b .pre .1 .1 .0) (b .args .least .0) (b .pre .1 .1 .1 .0) (b .pre .1 .1 .1 .1), b .pre .1 .1 .0 .few, b .pre .1 .1 .1 .0, b .pre .1 .0 .checked .fewStages, b .pre .1 .0 .checked .fewSegments)
 
 search-add-k : (t : ℕ) → search-lts.Need-add-k (search-claims t) (search-at t) search′.Post search-Inv-loop search-μ-loop
 search-add-k t c =
-    let b = c .before .before .before .before .before .before .before .before .before .before .before .before .before .before .before .before .before .before .before .before .before .before in
+    let b = c .before .before .before .before .before .before .before .before .before .before .before .before .before .before .before .before .before .before .before .before .before .before .before in
     omega (arith, c .before .before .before .before .loop-test .taken, small (b .pre .1 .0) (b .pre .1 .1 .0) (b .args .least .0) (b .pre .1 .1 .1 .0) (b .pre .1 .1 .1 .1))
 
 search-mul-pass-over : (t : ℕ) → search-lts.Need-mul-pass-over (search-claims t) (search-at t) search′.Post search-Inv-loop search-μ-loop
 search-mul-pass-over t c =
-    let b = c .before .before .before .before .before .before .before .before .before .before .before .before .before .before .before .before .before .before .before .before .before .before .before in
+    let b = c .before .before .before .before .before .before .before .before .before .before .before .before .before .before .before .before .before .before .before .before .before .before .before .before in
     omega (arith, rest-low (b .pre .1 .0) (b .pre .1 .1 .0) (b .args .least .0) (b .pre .1 .1 .1 .0) (b .pre .1 .1 .1 .1), b .pre .1 .1 .0 .few, b .pre .1 .1 .1 .0, b .pre .1 .0 .checked .fewStages, b .pre .1 .0 .checked .fewSegments)
 
 search-element-copy-out-pass-over : (t : ℕ) → search-lts.Need-element-copy-out-pass-over (search-claims t) (search-at t) search′.Post search-Inv-loop search-μ-loop
 search-element-copy-out-pass-over t c =
-    let b = c .before .before .before .before .before .before .before .before .before .before .before .before .before .before .before .before .before .before .before .before .before .before .before in
-    omega (arith, rest-low (b .pre .1 .0) (b .pre .1 .1 .0) (b .args .least .0) (b .pre .1 .1 .1 .0) (b .pre .1 .1 .1 .1), b .pre .1 .1 .0 .few, b .pre .1 .1 .1 .0, b .pre .1 .0 .checked .fewStages, b .pre .1 .0 .checked .fewSegments)
-
-search-mul-t68 : (t : ℕ) → search-lts.Need-mul-t68 (search-claims t) (search-at t) search′.Post search-Inv-loop search-μ-loop
-search-mul-t68 t c =
     let b = c .before .before .before .before .before .before .before .before .before .before .before .before .before .before .before .before .before .before .before .before .before .before .before .before in
     omega (arith, rest-low (b .pre .1 .0) (b .pre .1 .1 .0) (b .args .least .0) (b .pre .1 .1 .1 .0) (b .pre .1 .1 .1 .1), b .pre .1 .1 .0 .few, b .pre .1 .1 .1 .0, b .pre .1 .0 .checked .fewStages, b .pre .1 .0 .checked .fewSegments)
 
-search-element-copy-out-t71 : (t : ℕ) → search-lts.Need-element-copy-out-t71 (search-claims t) (search-at t) search′.Post search-Inv-loop search-μ-loop
-search-element-copy-out-t71 t c =
-    let b = c .before .before .before .before .before .before .before .before .before .before .before .before .before .before .before .before .before .before .before .before .before .before .before .before in
-    omega (arith, rest-low (b .pre .1 .0) (b .pre .1 .1 .0) (b .args .least .0) (b .pre .1 .1 .1 .0) (b .pre .1 .1 .1 .1), b .pre .1 .1 .0 .few, b .pre .1 .1 .1 .0, b .pre .1 .0 .checked .fewStages, b .pre .1 .0 .checked .fewSegments)
-
-search-mul-t73 : (t : ℕ) → search-lts.Need-mul-t73 (search-claims t) (search-at t) search′.Post search-Inv-loop search-μ-loop
-search-mul-t73 t c =
+search-add-pass-over : (t : ℕ) → search-lts.Need-add-pass-over (search-claims t) (search-at t) search′.Post search-Inv-loop search-μ-loop
+search-add-pass-over t c =
     let b = c .before .before .before .before .before .before .before .before .before .before .before .before .before .before .before .before .before .before .before .before .before .before .before .before .before in
     omega (arith, rest-low (b .pre .1 .0) (b .pre .1 .1 .0) (b .args .least .0) (b .pre .1 .1 .1 .0) (b .pre .1 .1 .1 .1), b .pre .1 .1 .0 .few, b .pre .1 .1 .1 .0, b .pre .1 .0 .checked .fewStages, b .pre .1 .0 .checked .fewSegments)
 
-search-element-copy-out-t76 : (t : ℕ) → search-lts.Need-element-copy-out-t76 (search-claims t) (search-at t) search′.Post search-Inv-loop search-μ-loop
-search-element-copy-out-t76 t c =
+search-mul-pass-over-2 : (t : ℕ) → search-lts.Need-mul-pass-over-2 (search-claims t) (search-at t) search′.Post search-Inv-loop search-μ-loop
+search-mul-pass-over-2 t c =
     let b = c .before .before .before .before .before .before .before .before .before .before .before .before .before .before .before .before .before .before .before .before .before .before .before .before .before in
     omega (arith, rest-low (b .pre .1 .0) (b .pre .1 .1 .0) (b .args .least .0) (b .pre .1 .1 .1 .0) (b .pre .1 .1 .1 .1), b .pre .1 .1 .0 .few, b .pre .1 .1 .1 .0, b .pre .1 .0 .checked .fewStages, b .pre .1 .0 .checked .fewSegments)
 
-search-add-t77 : (t : ℕ) → search-lts.Need-add-t77 (search-claims t) (search-at t) search′.Post search-Inv-loop search-μ-loop
-search-add-t77 t c =
+search-element-copy-out-pass-over-2 : (t : ℕ) → search-lts.Need-element-copy-out-pass-over-2 (search-claims t) (search-at t) search′.Post search-Inv-loop search-μ-loop
+search-element-copy-out-pass-over-2 t c =
+    let b = c .before .before .before .before .before .before .before .before .before .before .before .before .before .before .before .before .before .before .before .before .before .before .before .before .before in
+    omega (arith, rest-low (b .pre .1 .0) (b .pre .1 .1 .0) (b .args .least .0) (b .pre .1 .1 .1 .0) (b .pre .1 .1 .1 .1), b .pre .1 .1 .0 .few, b .pre .1 .1 .1 .0, b .pre .1 .0 .checked .fewStages, b .pre .1 .0 .checked .fewSegments)
+
+search-mul-pass-over-3 : (t : ℕ) → search-lts.Need-mul-pass-over-3 (search-claims t) (search-at t) search′.Post search-Inv-loop search-μ-loop
+search-mul-pass-over-3 t c =
     let b = c .before .before .before .before .before .before .before .before .before .before .before .before .before .before .before .before .before .before .before .before .before .before .before .before .before .before in
     omega (arith, rest-low (b .pre .1 .0) (b .pre .1 .1 .0) (b .args .least .0) (b .pre .1 .1 .1 .0) (b .pre .1 .1 .1 .1), b .pre .1 .1 .0 .few, b .pre .1 .1 .1 .0, b .pre .1 .0 .checked .fewStages, b .pre .1 .0 .checked .fewSegments)
 
-search-mul-t78 : (t : ℕ) → search-lts.Need-mul-t78 (search-claims t) (search-at t) search′.Post search-Inv-loop search-μ-loop
-search-mul-t78 t c =
+search-element-copy-out-pass-over-3 : (t : ℕ) → search-lts.Need-element-copy-out-pass-over-3 (search-claims t) (search-at t) search′.Post search-Inv-loop search-μ-loop
+search-element-copy-out-pass-over-3 t c =
     let b = c .before .before .before .before .before .before .before .before .before .before .before .before .before .before .before .before .before .before .before .before .before .before .before .before .before .before in
     omega (arith, rest-low (b .pre .1 .0) (b .pre .1 .1 .0) (b .args .least .0) (b .pre .1 .1 .1 .0) (b .pre .1 .1 .1 .1), b .pre .1 .1 .0 .few, b .pre .1 .1 .1 .0, b .pre .1 .0 .checked .fewStages, b .pre .1 .0 .checked .fewSegments)
 
-search-element-copy-out-t81 : (t : ℕ) → search-lts.Need-element-copy-out-t81 (search-claims t) (search-at t) search′.Post search-Inv-loop search-μ-loop
-search-element-copy-out-t81 t c =
-    let b = c .before .before .before .before .before .before .before .before .before .before .before .before .before .before .before .before .before .before .before .before .before .before .before .before .before .before in
-    omega (arith, rest-low (b .pre .1 .0) (b .pre .1 .1 .0) (b .args .least .0) (b .pre .1 .1 .1 .0) (b .pre .1 .1 .1 .1), b .pre .1 .1 .0 .few, b .pre .1 .1 .1 .0, b .pre .1 .0 .checked .fewStages, b .pre .1 .0 .checked .fewSegments)
-
-search-add-t82 : (t : ℕ) → search-lts.Need-add-t82 (search-claims t) (search-at t) search′.Post search-Inv-loop search-μ-loop
-search-add-t82 t c =
+search-mul-t71 : (t : ℕ) → search-lts.Need-mul-t71 (search-claims t) (search-at t) search′.Post search-Inv-loop search-μ-loop
+search-mul-t71 t c =
     let b = c .before .before .before .before .before .before .before .before .before .before .before .before .before .before .before .before .before .before .before .before .before .before .before .before .before .before .before in
+    omega (arith, rest-low (b .pre .1 .0) (b .pre .1 .1 .0) (b .args .least .0) (b .pre .1 .1 .1 .0) (b .pre .1 .1 .1 .1), b .pre .1 .1 .0 .few, b .pre .1 .1 .1 .0, b .pre .1 .0 .checked .fewStages, b .pre .1 .0 .checked .fewSegments)
+
+search-element-copy-out-t78 : (t : ℕ) → search-lts.Need-element-copy-out-t78 (search-claims t) (search-at t) search′.Post search-Inv-loop search-μ-loop
+search-element-copy-out-t78 t c =
+    let b = c .before .before .before .before .before .before .before .before .before .before .before .before .before .before .before .before .before .before .before .before .before .before .before .before .before .before .before in
+    omega (arith, rest-low (b .pre .1 .0) (b .pre .1 .1 .0) (b .args .least .0) (b .pre .1 .1 .1 .0) (b .pre .1 .1 .1 .1), b .pre .1 .1 .0 .few, b .pre .1 .1 .1 .0, b .pre .1 .0 .checked .fewStages, b .pre .1 .0 .checked .fewSegments)
+
+search-add-capacitance-requires-3 : (t : ℕ) → search-lts.Need-add-capacitance-requires-3 (search-claims t) (search-at t) search′.Post search-Inv-loop search-μ-loop
+search-add-capacitance-requires-3 t c κs =
+    let b = c .before .before .before .before .before .before .before .before .before .before .before .before .before .before .before .before .before .before .before .before .before .before .before .before .before .before .before .before in
     let l = c .before .before .before .before .before .before .before .before .before .before .loop in
     let n : at (b .args .skips .now) (b .args .left - 1) ≡ 0 → ⊥ = λ e. omega (arith, b .pre .1 .1 .1 .2) in
-    let s = ready (b .pre .1 .0) (b .pre .1 .1 .0) (b .args .least .0) (b .pre .1 .1 .1 .0) (b .pre .1 .1 .1 .1) (l .inv .0) (c .before .before .before .before .before .before .before .before .before .loop-test .taken) (c .before .before .before .before .before .before .before .before .step .result) (c .before .before .before .before .before .before .before .before .step .ensures) (c .before .before .before .before .before .before .before .add-delay .result .0) _ (l .gathered) (c .before .before .before .before .before .before .before .add-delay .ensures .0) refl (l .inv .1) in
-    omega (arith, load-most (b .pre .1 .0) s (l .best .0) (b .pre .1 .1 .1 .2) (rest-free (b .pre .1 .0) (b .pre .1 .1 .0) (b .args .least .0) (b .pre .1 .1 .1 .0) (b .pre .1 .1 .1 .1) n))
+    let s = ready (b .pre .1 .0) (b .pre .1 .1 .0) (b .args .least .0) (b .pre .1 .1 .1 .0) (b .pre .1 .1 .1 .1) (l .inv .0) (c .before .before .before .before .before .before .before .before .before .loop-test .taken) _ (c .before .before .before .before .before .before .before .before .before .before .before .before .before .before .before .add-capacitance .ensures .0) (c .before .before .before .before .before .before .before .before .step .result) (c .before .before .before .before .before .before .before .before .step .ensures) (c .before .before .before .before .before .before .before .add-delay .result .0) _ (l .gathered) (c .before .before .before .before .before .before .before .add-delay .ensures .0) (c .before .before .before .before .before .add-capacitance2 .ensures .0) (l .inv .1) in
+    omega (arith, load-most (b .pre .1 .0) s (l .best .0) (b .pre .1 .1 .1 .2) (rest-free (b .pre .1 .0) (b .pre .1 .1 .0) (b .args .least .0) (b .pre .1 .1 .1 .0) (b .pre .1 .1 .1 .1) n) _ refl)
 
 search-shared-slice-read-pass-over : (t : ℕ) → search-lts.Need-shared-slice-read-pass-over (search-claims t) (search-at t) search′.Post search-Inv-loop search-μ-loop
 search-shared-slice-read-pass-over t c =
-    let b = c .before .before .before .before .before .before .before .before .before .before .before .before .before .before .before .before .before .before .before .before .before .before .before .before .before .before .before .before in
+    let b = c .before .before .before .before .before .before .before .before .before .before .before .before .before .before .before .before .before .before .before .before .before .before .before .before .before .before .before .before .before .before in
     omega (arith, rest-low (b .pre .1 .0) (b .pre .1 .1 .0) (b .args .least .0) (b .pre .1 .1 .1 .0) (b .pre .1 .1 .1 .1), b .pre .1 .1 .0 .few, b .pre .1 .1 .1 .0, allowed-long (netBy (b .args .counts) (b .args .job .now)) (b .args .lower .now) (b .pre .1 .0 .lowerAllowed))
 
 search-shared-slice-read-pass-over-2 : (t : ℕ) → search-lts.Need-shared-slice-read-pass-over-2 (search-claims t) (search-at t) search′.Post search-Inv-loop search-μ-loop
 search-shared-slice-read-pass-over-2 t c =
-    let b = c .before .before .before .before .before .before .before .before .before .before .before .before .before .before .before .before .before .before .before .before .before .before .before .before .before .before .before .before .before in
+    let b = c .before .before .before .before .before .before .before .before .before .before .before .before .before .before .before .before .before .before .before .before .before .before .before .before .before .before .before .before .before .before .before in
     omega (arith, rest-low (b .pre .1 .0) (b .pre .1 .1 .0) (b .args .least .0) (b .pre .1 .1 .1 .0) (b .pre .1 .1 .1 .1), b .pre .1 .1 .0 .few, b .pre .1 .1 .1 .0, allowed-long (netBy (b .args .counts) (b .args .job .now)) (b .args .upper .now) (b .pre .1 .0 .upperAllowed))
 
 search-pass-over-requires : (t : ℕ) → search-lts.Need-pass-over-requires (search-claims t) (search-at t) search′.Post search-Inv-loop search-μ-loop
 search-pass-over-requires t c κs =
-    let b = c .before .before .before .before .before .before .before .before .before .before .before .before .before .before .before .before .before .before .before .before .before .before .before .before .before .before .before .before .before in
-    let l = c .before .before .before .before .before .before .before .before .before .before .before .before .loop in
+    let b = c .before .before .before .before .before .before .before .before .before .before .before .before .before .before .before .before .before .before .before .before .before .before .before .before .before .before .before .before .before .before .before in
+    let l = c .before .before .before .before .before .before .before .before .before .before .before .before .before .loop in
     let n : at (b .args .skips .now) (b .args .left - 1) ≡ 0 → ⊥ = λ e. omega (arith, b .pre .1 .1 .1 .2) in
-    let s = ready (b .pre .1 .0) (b .pre .1 .1 .0) (b .args .least .0) (b .pre .1 .1 .1 .0) (b .pre .1 .1 .1 .1) (l .inv .0) (c .before .before .before .before .before .before .before .before .before .before .before .loop-test .taken) (c .before .before .before .before .before .before .before .before .before .before .step .result) (c .before .before .before .before .before .before .before .before .before .before .step .ensures) (c .before .before .before .before .before .before .before .before .before .add-delay .result .0) _ (l .gathered) (c .before .before .before .before .before .before .before .before .before .add-delay .ensures .0) refl (l .inv .1) in (
+    let s = ready (b .pre .1 .0) (b .pre .1 .1 .0) (b .args .least .0) (b .pre .1 .1 .1 .0) (b .pre .1 .1 .1 .1) (l .inv .0) (c .before .before .before .before .before .before .before .before .before .before .before .before .loop-test .taken) _ (c .before .before .before .before .before .before .before .before .before .before .before .before .before .before .before .before .before .before .add-capacitance .ensures .0) (c .before .before .before .before .before .before .before .before .before .before .before .step .result) (c .before .before .before .before .before .before .before .before .before .before .before .step .ensures) (c .before .before .before .before .before .before .before .before .before .before .add-delay .result .0) _ (l .gathered) (c .before .before .before .before .before .before .before .before .before .before .add-delay .ensures .0) (c .before .before .before .before .before .before .before .before .add-capacitance2 .ensures .0) (l .inv .1) in (
       b .pre .1 .0 .checked,
       (
-        (few (b .pre .1 .0) s (l .best .0) (b .pre .1 .1 .1 .2) (rest-free (b .pre .1 .0) (b .pre .1 .1 .0) (b .args .least .0) (b .pre .1 .1 .1 .0) (b .pre .1 .1 .1 .1) n), top-high (b .pre .1 .0) s (l .best .0) (b .pre .1 .1 .1 .2) (rest-free (b .pre .1 .0) (b .pre .1 .1 .0) (b .args .least .0) (b .pre .1 .1 .1 .0) (b .pre .1 .1 .1 .1) n), weight-most (b .pre .1 .0) s (l .best .0) (b .pre .1 .1 .1 .2) (rest-free (b .pre .1 .0) (b .pre .1 .1 .0) (b .args .least .0) (b .pre .1 .1 .1 .0) (b .pre .1 .1 .1 .1) n), resistance-most (b .pre .1 .0) s (l .best .0) (b .pre .1 .1 .1 .2) (rest-free (b .pre .1 .0) (b .pre .1 .1 .0) (b .args .least .0) (b .pre .1 .1 .1 .0) (b .pre .1 .1 .1 .1) n), load-most (b .pre .1 .0) s (l .best .0) (b .pre .1 .1 .1 .2) (rest-free (b .pre .1 .0) (b .pre .1 .1 .0) (b .args .least .0) (b .pre .1 .1 .1 .0) (b .pre .1 .1 .1 .1) n)),
-        ((b .pre .1 .0 .inOrder _ (few (b .pre .1 .0) s (l .best .0) (b .pre .1 .1 .1 .2) (rest-free (b .pre .1 .0) (b .pre .1 .1 .0) (b .args .least .0) (b .pre .1 .1 .1 .0) (b .pre .1 .1 .1 .1) n)), small (b .pre .1 .0) s (l .best .0) (b .pre .1 .1 .1 .2) (rest-free (b .pre .1 .0) (b .pre .1 .1 .0) (b .args .least .0) (b .pre .1 .1 .1 .0) (b .pre .1 .1 .1 .1) n)), all-fit (b .pre .1 .0) s (l .best .0) (b .pre .1 .1 .1 .2) (rest-free (b .pre .1 .0) (b .pre .1 .1 .0) (b .args .least .0) (b .pre .1 .1 .1 .0) (b .pre .1 .1 .1 .1) n)),
+        (few (b .pre .1 .0) s (l .best .0) (b .pre .1 .1 .1 .2) (rest-free (b .pre .1 .0) (b .pre .1 .1 .0) (b .args .least .0) (b .pre .1 .1 .1 .0) (b .pre .1 .1 .1 .1) n), top-high (b .pre .1 .0) s (l .best .0) (b .pre .1 .1 .1 .2) (rest-free (b .pre .1 .0) (b .pre .1 .1 .0) (b .args .least .0) (b .pre .1 .1 .1 .0) (b .pre .1 .1 .1 .1) n), weight-most (b .pre .1 .0) s (l .best .0) (b .pre .1 .1 .1 .2) (rest-free (b .pre .1 .0) (b .pre .1 .1 .0) (b .args .least .0) (b .pre .1 .1 .1 .0) (b .pre .1 .1 .1 .1) n), resistance-most (b .pre .1 .0) s (l .best .0) (b .pre .1 .1 .1 .2) (rest-free (b .pre .1 .0) (b .pre .1 .1 .0) (b .args .least .0) (b .pre .1 .1 .1 .0) (b .pre .1 .1 .1 .1) n), load-most (b .pre .1 .0) s (l .best .0) (b .pre .1 .1 .1 .2) (rest-free (b .pre .1 .0) (b .pre .1 .1 .0) (b .args .least .0) (b .pre .1 .1 .1 .0) (b .pre .1 .1 .1 .1) n) _ (c .before .before .add-capacitance3 .ensures .0)),
+        ((b .pre .1 .0 .inOrder _ (few (b .pre .1 .0) s (l .best .0) (b .pre .1 .1 .1 .2) (rest-free (b .pre .1 .0) (b .pre .1 .1 .0) (b .args .least .0) (b .pre .1 .1 .1 .0) (b .pre .1 .1 .1 .1) n)), small (b .pre .1 .0) s (l .best .0) (b .pre .1 .1 .1 .2) (rest-free (b .pre .1 .0) (b .pre .1 .1 .0) (b .args .least .0) (b .pre .1 .1 .1 .0) (b .pre .1 .1 .1 .1) n)), all-fit (b .pre .1 .0) s (l .best .0) (b .pre .1 .1 .1 .2) (rest-free (b .pre .1 .0) (b .pre .1 .1 .0) (b .args .least .0) (b .pre .1 .1 .1 .0) (b .pre .1 .1 .1 .1) n) _ (c .before .before .add-capacitance3 .ensures .0)),
       ),
     )
 
 search-shared-slice-read-if2 : (t : ℕ) → search-lts.Need-shared-slice-read-if2 (search-claims t) (search-at t) search′.Post search-Inv-loop search-μ-loop
 search-shared-slice-read-if2 t c =
-    let b = c .before .before .before .before .before .before .before .before .before .before .before .before .before .before .before .before .before .before .before .before .before .before .before .before .before .before .before .before .before .before .before in
+    let b = c .before .before .before .before .before .before .before .before .before .before .before .before .before .before .before .before .before .before .before .before .before .before .before .before .before .before .before .before .before .before .before .before .before in
     omega (arith, rest-low (b .pre .1 .0) (b .pre .1 .1 .0) (b .args .least .0) (b .pre .1 .1 .1 .0) (b .pre .1 .1 .1 .1), b .pre .1 .1 .0 .few, b .pre .1 .1 .1 .0, allowed-long (netBy (b .args .counts) (b .args .job .now)) (b .args .upper .now) (b .pre .1 .0 .upperAllowed))
 
 search-take-from-requires : (t : ℕ) → search-lts.Need-take-from-requires (search-claims t) (search-at t) search′.Post search-Inv-loop search-μ-loop
 search-take-from-requires t c κs =
-    let b = c .before .before .before .before .before .before .before .before .before .before .before .before .before .before .before .before .before .before .before .before .before .before .before .before .before .before .before .before .before .before .before .before .before .before .before .before in
-    let l = c .before .before .before .before .before .before .before .before .before .before .before .before .before .before .before .before .before .before .before .loop in
+    let b = c .before .before .before .before .before .before .before .before .before .before .before .before .before .before .before .before .before .before .before .before .before .before .before .before .before .before .before .before .before .before .before .before .before .before .before .before .before .before in
+    let l = c .before .before .before .before .before .before .before .before .before .before .before .before .before .before .before .before .before .before .before .before .loop in
     let n : at (b .args .skips .now) (b .args .left - 1) ≡ 0 → ⊥ = λ e. omega (arith, b .pre .1 .1 .1 .2) in
-    (b .pre .1 .0, (ready (b .pre .1 .0) (b .pre .1 .1 .0) (b .args .least .0) (b .pre .1 .1 .1 .0) (b .pre .1 .1 .1 .1) (l .inv .0) (c .before .before .before .before .before .before .before .before .before .before .before .before .before .before .before .before .before .before .loop-test .taken) (c .before .before .before .before .before .before .before .before .before .before .before .before .before .before .before .before .before .step .result) (c .before .before .before .before .before .before .before .before .before .before .before .before .before .before .before .before .before .step .ensures) (c .before .before .before .before .before .before .before .before .before .before .before .before .before .before .before .before .add-delay .result .0) _ (l .gathered) (c .before .before .before .before .before .before .before .before .before .before .before .before .before .before .before .before .add-delay .ensures .0) refl (l .inv .1), ((b .pre .1 .1 .1 .2, rest-free (b .pre .1 .0) (b .pre .1 .1 .0) (b .args .least .0) (b .pre .1 .1 .1 .0) (b .pre .1 .1 .1 .1) n, c .before .before .before .before .before .before .before .before .before .before .before .before .before .if1 .taken), c .before .before .before .before .before .before .pass-over .ensures)))
+    let s = ready (b .pre .1 .0) (b .pre .1 .1 .0) (b .args .least .0) (b .pre .1 .1 .1 .0) (b .pre .1 .1 .1 .1) (l .inv .0) (c .before .before .before .before .before .before .before .before .before .before .before .before .before .before .before .before .before .before .before .loop-test .taken) _ (c .before .before .before .before .before .before .before .before .before .before .before .before .before .before .before .before .before .before .before .before .before .before .before .before .before .add-capacitance .ensures .0) (c .before .before .before .before .before .before .before .before .before .before .before .before .before .before .before .before .before .before .step .result) (c .before .before .before .before .before .before .before .before .before .before .before .before .before .before .before .before .before .before .step .ensures) (c .before .before .before .before .before .before .before .before .before .before .before .before .before .before .before .before .before .add-delay .result .0) _ (l .gathered) (c .before .before .before .before .before .before .before .before .before .before .before .before .before .before .before .before .before .add-delay .ensures .0) (c .before .before .before .before .before .before .before .before .before .before .before .before .before .before .before .add-capacitance2 .ensures .0) (l .inv .1) in
+    (b .pre .1 .0, (s, ((b .pre .1 .1 .1 .2, rest-free (b .pre .1 .0) (b .pre .1 .1 .0) (b .args .least .0) (b .pre .1 .1 .1 .0) (b .pre .1 .1 .1 .1) n, c .before .before .before .before .before .before .before .before .before .before .before .before .before .before .if1 .taken), passed-by (b .pre .1 .0) s (l .best .0) (b .pre .1 .1 .1 .2) (rest-free (b .pre .1 .0) (b .pre .1 .1 .0) (b .args .least .0) (b .pre .1 .1 .1 .0) (b .pre .1 .1 .1 .1) n) _ (c .before .before .before .before .before .before .before .before .before .add-capacitance3 .ensures .0) _ (c .before .before .before .before .before .before .pass-over .ensures))))
 
 search-loop-less : (t : ℕ) → search-lts.Need-loop-less (search-claims t) (search-at t) search′.Post search-Inv-loop search-μ-loop
-search-loop-less t c = omega (arith, c .before .before .before .before .before .before .before .before .before .before .before .before .before .before .before .before .before .before .before .before .before .before .before .before .before .loop-test .taken)
+search-loop-less t c = omega (arith, c .before .before .before .before .before .before .before .before .before .before .before .before .before .before .before .before .before .before .before .before .before .before .before .before .before .before .loop-test .taken)
 
 search-loop-again : (t : ℕ) → search-lts.Need-loop-again (search-claims t) (search-at t) search′.Post search-Inv-loop search-μ-loop
 search-loop-again t c =
-    let b = c .before .before .before .before .before .before .before .before .before .before .before .before .before .before .before .before .before .before .before .before .before .before .before .before .before .before .before .before .before .before .before .before .before .before .before .before .before .before .before .before .before .before .before in
-    let l = c .before .before .before .before .before .before .before .before .before .before .before .before .before .before .before .before .before .before .before .before .before .before .before .before .before .before .loop in
+    let b = c .before .before .before .before .before .before .before .before .before .before .before .before .before .before .before .before .before .before .before .before .before .before .before .before .before .before .before .before .before .before .before .before .before .before .before .before .before .before .before .before .before .before .before .before .before in
+    let l = c .before .before .before .before .before .before .before .before .before .before .before .before .before .before .before .before .before .before .before .before .before .before .before .before .before .before .before .loop in
     let r = c .before .before .before .before .before .before .take-from in (
-      done (b .pre .1 .0) (b .pre .1 .1 .0) (b .args .least .0) (b .pre .1 .1 .1 .0) (b .pre .1 .1 .1 .1) (l .inv .0) (c .before .before .before .before .before .before .before .before .before .before .before .before .before .before .before .before .before .before .before .before .before .before .before .before .before .loop-test .taken) _ (r .kept .1 .1 .1 .1 .1 .1 .1 .1 .1 .1 .1 .1 .1 .1 .1 .0) (r .kept .1 .1 .1 .1 .1 .1 .1 .1 .1 .1 .1 .1 .1 .1 .1 .1 .0) (r .ensures),
+      done (b .pre .1 .0) (b .pre .1 .1 .0) (b .args .least .0) (b .pre .1 .1 .1 .0) (b .pre .1 .1 .1 .1) (l .inv .0) (c .before .before .before .before .before .before .before .before .before .before .before .before .before .before .before .before .before .before .before .before .before .before .before .before .before .before .loop-test .taken) _ (r .kept .1 .1 .1 .1 .1 .1 .1 .1 .1 .1 .1 .1 .1 .1 .1 .0) (r .kept .1 .1 .1 .1 .1 .1 .1 .1 .1 .1 .1 .1 .1 .1 .1 .1 .0) (r .ensures),
       λ w. set-set (l .gathered) (at (b .args .ups .now) (b .args .left - 1)) _ w ∙ l .inv .1 w,
     )
 
 search-loop-less-2 : (t : ℕ) → search-lts.Need-loop-less-2 (search-claims t) (search-at t) search′.Post search-Inv-loop search-μ-loop
-search-loop-less-2 t c = omega (arith, c .before .before .before .before .before .before .before .before .before .before .before .before .before .before .loop-test .taken)
+search-loop-less-2 t c = omega (arith, c .before .before .before .before .before .before .before .before .before .before .before .before .before .before .before .loop-test .taken)
 
 search-loop-again-2 : (t : ℕ) → search-lts.Need-loop-again-2 (search-claims t) (search-at t) search′.Post search-Inv-loop search-μ-loop
 search-loop-again-2 t c =
-    let b = c .before .before .before .before .before .before .before .before .before .before .before .before .before .before .before .before .before .before .before .before .before .before .before .before .before .before .before .before .before .before .before .before in
-    let l = c .before .before .before .before .before .before .before .before .before .before .before .before .before .before .before .loop in
+    let b = c .before .before .before .before .before .before .before .before .before .before .before .before .before .before .before .before .before .before .before .before .before .before .before .before .before .before .before .before .before .before .before .before .before .before in
+    let l = c .before .before .before .before .before .before .before .before .before .before .before .before .before .before .before .before .loop in
     let n : at (b .args .skips .now) (b .args .left - 1) ≡ 0 → ⊥ = λ e. omega (arith, b .pre .1 .1 .1 .2) in
-    let s = ready (b .pre .1 .0) (b .pre .1 .1 .0) (b .args .least .0) (b .pre .1 .1 .1 .0) (b .pre .1 .1 .1 .1) (l .inv .0) (c .before .before .before .before .before .before .before .before .before .before .before .before .before .before .loop-test .taken) (c .before .before .before .before .before .before .before .before .before .before .before .before .before .step .result) (c .before .before .before .before .before .before .before .before .before .before .before .before .before .step .ensures) (c .before .before .before .before .before .before .before .before .before .before .before .before .add-delay .result .0) _ (l .gathered) (c .before .before .before .before .before .before .before .before .before .before .before .before .add-delay .ensures .0) refl (l .inv .1) in (
-      done (b .pre .1 .0) (b .pre .1 .1 .0) (b .args .least .0) (b .pre .1 .1 .1 .0) (b .pre .1 .1 .1 .1) (l .inv .0) (c .before .before .before .before .before .before .before .before .before .before .before .before .before .before .loop-test .taken) _ refl refl
-          (ended (b .pre .1 .0) s (l .best .0) (b .pre .1 .1 .1 .2) (rest-free (b .pre .1 .0) (b .pre .1 .1 .0) (b .args .least .0) (b .pre .1 .1 .1 .0) (b .pre .1 .1 .1 .1) n) _ (passed-to (b .pre .1 .0) s (l .best .0) (b .pre .1 .1 .1 .2) (rest-free (b .pre .1 .0) (b .pre .1 .1 .0) (b .args .least .0) (b .pre .1 .1 .1 .0) (b .pre .1 .1 .1 .1) n) (c .before .before .before .before .before .before .before .before .before .if1 .taken) _ (c .before .before .pass-over .ensures)) (omega (arith, c .if2 .left)) refl),
+    let s = ready (b .pre .1 .0) (b .pre .1 .1 .0) (b .args .least .0) (b .pre .1 .1 .1 .0) (b .pre .1 .1 .1 .1) (l .inv .0) (c .before .before .before .before .before .before .before .before .before .before .before .before .before .before .before .loop-test .taken) _ (c .before .before .before .before .before .before .before .before .before .before .before .before .before .before .before .before .before .before .before .before .before .add-capacitance .ensures .0) (c .before .before .before .before .before .before .before .before .before .before .before .before .before .before .step .result) (c .before .before .before .before .before .before .before .before .before .before .before .before .before .before .step .ensures) (c .before .before .before .before .before .before .before .before .before .before .before .before .before .add-delay .result .0) _ (l .gathered) (c .before .before .before .before .before .before .before .before .before .before .before .before .before .add-delay .ensures .0) (c .before .before .before .before .before .before .before .before .before .before .before .add-capacitance2 .ensures .0) (l .inv .1) in (
+      done (b .pre .1 .0) (b .pre .1 .1 .0) (b .args .least .0) (b .pre .1 .1 .1 .0) (b .pre .1 .1 .1 .1) (l .inv .0) (c .before .before .before .before .before .before .before .before .before .before .before .before .before .before .before .loop-test .taken) _ refl refl
+          (ended (b .pre .1 .0) s (l .best .0) (b .pre .1 .1 .1 .2) (rest-free (b .pre .1 .0) (b .pre .1 .1 .0) (b .args .least .0) (b .pre .1 .1 .1 .0) (b .pre .1 .1 .1 .1) n) _ (passed-to (b .pre .1 .0) s (l .best .0) (b .pre .1 .1 .1 .2) (rest-free (b .pre .1 .0) (b .pre .1 .1 .0) (b .args .least .0) (b .pre .1 .1 .1 .0) (b .pre .1 .1 .1 .1) n) (c .before .before .before .before .before .before .before .before .before .before .if1 .taken) _ (passed-by (b .pre .1 .0) s (l .best .0) (b .pre .1 .1 .1 .2) (rest-free (b .pre .1 .0) (b .pre .1 .1 .0) (b .args .least .0) (b .pre .1 .1 .1 .0) (b .pre .1 .1 .1 .1) n) _ (c .before .before .before .before .before .add-capacitance3 .ensures .0) _ (c .before .before .pass-over .ensures))) (omega (arith, c .if2 .left)) refl),
       λ w. set-set (l .gathered) (at (b .args .ups .now) (b .args .left - 1)) _ w ∙ l .inv .1 w,
     )
 
 search-search-requires : (t : ℕ) → search-lts.Need-search-requires (search-claims t) (search-at t) search′.Post search-Inv-loop search-μ-loop
 search-search-requires t c κs =
-    let b = c .before .before .before .before .before .before .before .before .before .before .before .before .before .before .before .before .before .before .before .before .before .before .before .before .before .before .before in
+    let b = c .before .before .before .before .before .before .before .before .before .before .before .before .before .before .before .before .before .before .before .before .before .before .before .before .before .before .before .before in
     let l = c .before .before .before .before .before .before .before .before .before .before .loop in
     let n : at (b .args .skips .now) (b .args .left - 1) ≡ 0 → ⊥ = λ e. omega (arith, b .pre .1 .1 .1 .2) in
-    (omega (arith, rest-low (b .pre .1 .0) (b .pre .1 .1 .0) (b .args .least .0) (b .pre .1 .1 .1 .0) (b .pre .1 .1 .1 .1), b .pre .0, b .pre .1 .1 .1 .0), (b .pre .1 .0, (ready (b .pre .1 .0) (b .pre .1 .1 .0) (b .args .least .0) (b .pre .1 .1 .1 .0) (b .pre .1 .1 .1 .1) (l .inv .0) (c .before .before .before .before .before .before .before .before .before .loop-test .taken) (c .before .before .before .before .before .before .before .before .step .result) (c .before .before .before .before .before .before .before .before .step .ensures) (c .before .before .before .before .before .before .before .add-delay .result .0) _ (l .gathered) (c .before .before .before .before .before .before .before .add-delay .ensures .0) refl (l .inv .1), (b .pre .1 .1 .1 .2, rest-free (b .pre .1 .0) (b .pre .1 .1 .0) (b .args .least .0) (b .pre .1 .1 .1 .0) (b .pre .1 .1 .1 .1) n, omega (arith, c .before .before .before .before .if1 .left)))))
+    (omega (arith, rest-low (b .pre .1 .0) (b .pre .1 .1 .0) (b .args .least .0) (b .pre .1 .1 .1 .0) (b .pre .1 .1 .1 .1), b .pre .0, b .pre .1 .1 .1 .0), (b .pre .1 .0, (ready (b .pre .1 .0) (b .pre .1 .1 .0) (b .args .least .0) (b .pre .1 .1 .1 .0) (b .pre .1 .1 .1 .1) (l .inv .0) (c .before .before .before .before .before .before .before .before .before .loop-test .taken) _ (c .before .before .before .before .before .before .before .before .before .before .before .before .before .before .before .add-capacitance .ensures .0) (c .before .before .before .before .before .before .before .before .step .result) (c .before .before .before .before .before .before .before .before .step .ensures) (c .before .before .before .before .before .before .before .add-delay .result .0) _ (l .gathered) (c .before .before .before .before .before .before .before .add-delay .ensures .0) (c .before .before .before .before .before .add-capacitance2 .ensures .0) (l .inv .1), (b .pre .1 .1 .1 .2, rest-free (b .pre .1 .0) (b .pre .1 .1 .0) (b .args .least .0) (b .pre .1 .1 .1 .0) (b .pre .1 .1 .1 .1) n, omega (arith, c .before .before .before .before .if1 .left)))))
 
 search-loop-less-3 : (t : ℕ) → search-lts.Need-loop-less-3 (search-claims t) (search-at t) search′.Post search-Inv-loop search-μ-loop
 search-loop-less-3 t c = omega (arith, c .before .before .before .before .before .before .before .before .before .before .before .before .before .before .before .before .loop-test .taken)
 
 search-loop-again-3 : (t : ℕ) → search-lts.Need-loop-again-3 (search-claims t) (search-at t) search′.Post search-Inv-loop search-μ-loop
 search-loop-again-3 t c =
-    let b = c .before .before .before .before .before .before .before .before .before .before .before .before .before .before .before .before .before .before .before .before .before .before .before .before .before .before .before .before .before .before .before .before .before .before in
+    let b = c .before .before .before .before .before .before .before .before .before .before .before .before .before .before .before .before .before .before .before .before .before .before .before .before .before .before .before .before .before .before .before .before .before .before .before in
     let l = c .before .before .before .before .before .before .before .before .before .before .before .before .before .before .before .before .before .loop in
     let r = c .before .before .before .before .before .before .search in (
       done (b .pre .1 .0) (b .pre .1 .1 .0) (b .args .least .0) (b .pre .1 .1 .1 .0) (b .pre .1 .1 .1 .1) (l .inv .0) (c .before .before .before .before .before .before .before .before .before .before .before .before .before .before .before .before .loop-test .taken) _ (r .kept .1 .1 .1 .1 .1 .1 .1 .1 .1 .1 .1 .1 .1 .1 .0) (r .kept .1 .1 .1 .1 .1 .1 .1 .1 .1 .1 .1 .1 .1 .1 .1 .0) (r .ensures),
@@ -343,35 +347,35 @@ search-loop-again-3 t c =
 
 search-mul-gathered-2 : (t : ℕ) → search-lts.Need-mul-gathered-2 (search-claims t) (search-at t) search′.Post search-Inv-loop search-μ-loop
 search-mul-gathered-2 t c =
-    let b = c .before .before .before .before .before .before .before .before .before .before .before .before .before .before .before .before .before .before in
+    let b = c .before .before .before .before .before .before .before .before .before .before .before .before .before .before .before .before .before .before .before in
     omega (arith, node-low (b .pre .1 .0) (b .pre .1 .1 .0) (b .args .least .0) (b .pre .1 .1 .1 .0) (b .pre .1 .1 .1 .1), b .pre .1 .1 .0 .few, b .pre .1 .1 .1 .0, b .pre .1 .0 .checked .fewStages, b .pre .1 .0 .checked .fewSegments)
 
 search-element-write-gathered-2 : (t : ℕ) → search-lts.Need-element-write-gathered-2 (search-claims t) (search-at t) search′.Post search-Inv-loop search-μ-loop
 search-element-write-gathered-2 t c =
-    let b = c .before .before .before .before .before .before .before .before .before .before .before .before .before .before .before .before .before .before in
+    let b = c .before .before .before .before .before .before .before .before .before .before .before .before .before .before .before .before .before .before .before in
     omega (arith, node-low (b .pre .1 .0) (b .pre .1 .1 .0) (b .args .least .0) (b .pre .1 .1 .1 .0) (b .pre .1 .1 .1 .1), b .pre .1 .1 .0 .few, b .pre .1 .1 .1 .0, b .pre .1 .0 .checked .fewStages, b .pre .1 .0 .checked .fewSegments)
 
 search-same-length : (t : ℕ) → search-lts.Need-same-length (search-claims t) (search-at t) search′.Post search-Inv-loop search-μ-loop
 search-same-length t c =
-    let b = c .before .before .before .before .before .before .before .before .before .before .before .before .before .before .before .before .before .before in
+    let b = c .before .before .before .before .before .before .before .before .before .before .before .before .before .before .before .before .before .before .before in
     let l = c .before .loop in
     allowed-long (netBy (b .args .counts) (b .args .job .now)) (l .x) (l .inv .0 .allowed) ∙ sym (allowed-long (netBy (b .args .counts) (b .args .job .now)) (b .args .x .now) (b .pre .1 .1 .0 .allowed))
 
 search-same-length-2 : (t : ℕ) → search-lts.Need-same-length-2 (search-claims t) (search-at t) search′.Post search-Inv-loop search-μ-loop
 search-same-length-2 t c =
-    let b = c .before .before .before .before .before .before .before .before .before .before .before .before .before .before .before .before .before .before in
+    let b = c .before .before .before .before .before .before .before .before .before .before .before .before .before .before .before .before .before .before .before in
     let l = c .before .loop in
     l .inv .0 .leanLong ∙ sym (b .pre .1 .1 .0 .leanLong)
 
 search-same-length-3 : (t : ℕ) → search-lts.Need-same-length-3 (search-claims t) (search-at t) search′.Post search-Inv-loop search-μ-loop
 search-same-length-3 t c =
-    let b = c .before .before .before .before .before .before .before .before .before .before .before .before .before .before .before .before .before .before in
+    let b = c .before .before .before .before .before .before .before .before .before .before .before .before .before .before .before .before .before .before .before in
     let l = c .before .loop in
     l .inv .0 .wideLong ∙ sym (b .pre .1 .1 .0 .wideLong)
 
 search-returns : (t : ℕ) → search-lts.Need-returns (search-claims t) (search-at t) search′.Post search-Inv-loop search-μ-loop
 search-returns t c =
-    let b = c .before .before .before .before .before .before .before .before .before .before .before .before .before .before .before .before .before .before in
+    let b = c .before .before .before .before .before .before .before .before .before .before .before .before .before .before .before .before .before .before .before in
     let l = c .before .loop in
     ended (b .pre .1 .0) (b .pre .1 .1 .0) (b .args .least .0) (b .pre .1 .1 .1 .0) (b .pre .1 .1 .1 .1) _ (l .inv .0) (c .loop-test .left) (l .inv .1 (at (b .args .gathered .now) (at (b .args .ups .now) (b .args .left - 1))) ∙ set-getD (b .args .gathered .now) (at (b .args .ups .now) (b .args .left - 1)) 0)
 
@@ -389,38 +393,38 @@ pub +search-spec : {M : Type 1} → statement M
     (search-element-copy-out-further t)
     (search-mul-weight t)
     (search-element-copy-out-weight t)
-    (search-mul-others t)
-    (search-element-copy-out-others t)
-    (search-mul-others-2 t)
-    (search-element-copy-out-others-2 t)
-    (search-add-others t)
-    (search-mul-others-3 t)
-    (search-element-copy-out-others-3 t)
-    (search-add-others-2 t)
+    (search-mul-t39 t)
+    (search-element-copy-out-t44 t)
+    (search-mul-t36 t)
+    (search-element-copy-out-t44-2 t)
+    (search-add-t39 t)
+    (search-mul-t50 t)
+    (search-element-copy-out-t53 t)
+    (search-add-capacitance-requires t)
     (search-mul-node t)
     (search-element-copy-out-node t)
-    (search-mul-others-4 t)
-    (search-element-copy-out-others-4 t)
+    (search-mul-t50-2 t)
+    (search-element-copy-out-t44-3 t)
     (search-shared-slice-read-top t)
     (search-shared-slice-read-k t)
     (search-loop-holds t)
     (search-step-requires t)
     (search-add-delay-requires t)
     (search-slice-write-x t)
-    (search-add-gathered t)
+    (search-add-capacitance-requires-2 t)
     (search-mul-gathered t)
     (search-element-write-gathered t)
     (search-add-k t)
     (search-mul-pass-over t)
     (search-element-copy-out-pass-over t)
-    (search-mul-t68 t)
-    (search-element-copy-out-t71 t)
-    (search-mul-t73 t)
-    (search-element-copy-out-t76 t)
-    (search-add-t77 t)
-    (search-mul-t78 t)
-    (search-element-copy-out-t81 t)
-    (search-add-t82 t)
+    (search-add-pass-over t)
+    (search-mul-pass-over-2 t)
+    (search-element-copy-out-pass-over-2 t)
+    (search-mul-pass-over-3 t)
+    (search-element-copy-out-pass-over-3 t)
+    (search-mul-t71 t)
+    (search-element-copy-out-t78 t)
+    (search-add-capacitance-requires-3 t)
     (search-shared-slice-read-pass-over t)
     (search-shared-slice-read-pass-over-2 t)
     (search-pass-over-requires t)
