@@ -1,8 +1,9 @@
 // Questions 15 and 16: is a sizing long enough, and is each index in its place's range?
 use net::Counts;
 ghost use mathlib.Core.Path.{_≡_};
-ghost use Prim.Native.Nat.{_+_, _<_, _≤_};
+ghost use Prim.Native.Nat.{_<_, _≤_};
 ghost use lib.ListN.{length};
+ghost use Rattle.net.specs.Job.{placesBy};
 ghost use Rattle.net.specs.Net.{netBy};
 ghost use Rattle.net.specs.Checked.{Held};
 ghost use Rattle.net.specs.Answers.{question16};
@@ -11,7 +12,7 @@ ghost use Rattle.allowed.specs.Number.{indexInRange, sizingNumber};
 // Is the index of place p in its range?
 fn index_in_range(job: &[u8], counts: Counts, sizing: &[u8], p: usize) -> bool
     requires { ⌜ Held counts (now job) ⌝ }
-    requires { ⌜ (p < counts .stages + counts .segments) × (p < length (now sizing)) ⌝ }
+    requires { ⌜ (p < placesBy counts) × (p < length (now sizing)) ⌝ }
     ensures { λ r. ⌜ r ≡ indexInRange (netBy counts (now (job .entry))) (now (sizing .entry)) p ⌝ }
 {
     let k = sizing[p];
@@ -21,7 +22,7 @@ fn index_in_range(job: &[u8], counts: Counts, sizing: &[u8], p: usize) -> bool
 // Is each index of a sizing in its place's range?
 fn in_ranges(job: &[u8], counts: Counts, sizing: &[u8]) -> bool
     requires { ⌜ Held counts (now job) ⌝ }
-    requires { ⌜ counts .stages + counts .segments ≤ length (now sizing) ⌝ }
+    requires { ⌜ placesBy counts ≤ length (now sizing) ⌝ }
     ensures { λ r. ⌜ r ≡ question16 (netBy counts (now (job .entry))) (now (sizing .entry)) ⌝ }
 {
     let places = counts.stages + counts.segments;

@@ -5,8 +5,12 @@ use mathlib.Core.List.{List}
 use Prim.Native.Nat.{ℕ, _<_}
 use Rattle.lattice.specs.Side.{Side, below, above}
 use Rattle.lattice.specs.Space.{Space}
-use Rattle.lattice.specs.Refine.{refine, slack, Approaching}
-use Rattle.net.specs.Net.{Net}
+use Rattle.lattice.specs.Refine.{refine, slack, bound, Approaching}
+use Rattle.net.specs.declared.Counts.{Counts}
+use Rattle.net.specs.Job.{placesBy}
+use Rattle.net.specs.Net.{Net, netBy}
+use Rattle.net.specs.Delay.{delay}
+use Rattle.net.specs.Sizings.{allowed}
 
 -- The first index of place p, seen from s.
 abbrev pub firstAt : Side → Net → ℕ → ℕ
@@ -20,3 +24,17 @@ pub record Swept (s : Side) (sp : Space) (D : List ℕ → ℕ) (x₀ : List ℕ
   pub closer : changed ≡ true → slack s sp x < slack s sp x₀
   pub same : changed ≡ false → x ≡ x₀
   pub still : changed ≡ false → (p : ℕ) → p < n → refine s sp D x p ≡ x
+
+-- Of the net of a job, by the counts of its records and its bytes, seen from s.
+module _ (c : Counts) (b : List ℕ) (s : Side) where
+  -- Refining has come to x, which is not past the bound.
+  abbrev pub ApproachingFrom : List ℕ → Type 0
+  ApproachingFrom x = Approaching s (allowed (netBy c b)) (delay (netBy c b)) x
+
+  -- A sweep of all places has gone from x to y.
+  abbrev pub SweptFrom : List ℕ → List ℕ → Bool → Type 0
+  SweptFrom x y changed = Swept s (allowed (netBy c b)) (delay (netBy c b)) x (placesBy c) y changed
+
+  -- x is the bound.
+  abbrev pub BoundFrom : List ℕ → Type 0
+  BoundFrom x = x ≡ bound s (allowed (netBy c b)) (delay (netBy c b))

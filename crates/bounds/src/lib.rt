@@ -3,24 +3,20 @@ use lattice::Side;
 use net::Counts;
 use quantity::Capacitance;
 ghost use mathlib.Core.Path.{_≡_};
-ghost use Prim.Native.Nat.{suc, _+_, _-_, _<_, _≤_};
-ghost use lib.Dec.{leb};
+ghost use Prim.Native.Nat.{suc, _-_, _<_, _≤_};
 ghost use lib.ListN.{length};
-ghost use Rattle.lattice.specs.Lists.{at, every, product};
-ghost use Rattle.lattice.specs.Refine.{bound as boundOf, Approaching};
+ghost use Rattle.net.specs.Job.{placesBy};
 ghost use Rattle.net.specs.Net.{netBy};
-ghost use Rattle.net.specs.Delay.{delay};
-ghost use Rattle.net.specs.Sizings.{allowed};
-ghost use Rattle.net.specs.Checked.{Checked};
-ghost use Rattle.place.specs.Partial.{WeightsFrom};
+ghost use Rattle.net.specs.Checked.{Checked, ForPlaces};
 ghost use Rattle.lattice.specs.SideOf.{sideOf};
-ghost use Rattle.bounds.specs.Sweep.{firstAt, Swept};
-ghost use Rattle.bounds.specs.Between.{Between};
+ghost use Rattle.place.specs.ByCounts.{Weighed};
+ghost use Rattle.bounds.specs.Sweep.{firstAt, ApproachingFrom, SweptFrom, BoundFrom};
+ghost use Rattle.bounds.specs.Between.{Between, orderly, roomy};
 
 // The first index of place p, seen from a side.
 fn first_at(job: &[u8], counts: Counts, p: usize, side: Side) -> u8
     requires { ⌜ Checked counts (now job) ⌝ }
-    requires { ⌜ p < counts .stages + counts .segments ⌝ }
+    requires { ⌜ p < placesBy counts ⌝ }
     ensures { λ r. ⌜ r ≡ firstAt (sideOf side) (netBy counts (now (job .entry))) p ⌝ }
 {
     match side {
@@ -32,8 +28,8 @@ fn first_at(job: &[u8], counts: Counts, p: usize, side: Side) -> u8
 // Puts the first index at each place: where refining starts.
 fn start(job: &[u8], counts: Counts, x: &mut [u8], side: Side)
     requires { ⌜ Checked counts (now job) ⌝ }
-    requires { ⌜ length (now x) ≡ counts .stages + counts .segments ⌝ }
-    ensures { λ r. ⌜ Approaching (sideOf side) (allowed (netBy counts (now (job .entry)))) (delay (netBy counts (now (job .entry)))) (now (x .exit)) ⌝ }
+    requires { ⌜ ForPlaces counts (now x) ⌝ }
+    ensures { λ r. ⌜ ApproachingFrom counts (now (job .entry)) (sideOf side) (now (x .exit)) ⌝ }
 {
     let places = counts.stages + counts.segments;
     let mut p = 0;
@@ -47,9 +43,9 @@ fn start(job: &[u8], counts: Counts, x: &mut [u8], side: Side)
 // and an index is put only before that.
 fn sweep(job: &[u8], counts: Counts, weights: &[u64; 68], x: &mut [u8], side: Side) -> bool
     requires { ⌜ Checked counts (now job) ⌝ }
-    requires { ⌜ WeightsFrom (netBy counts (now job)) 0 (now weights) ⌝ }
-    requires { ⌜ Approaching (sideOf side) (allowed (netBy counts (now job))) (delay (netBy counts (now job))) (now x) ⌝ }
-    ensures { λ r. ⌜ Swept (sideOf side) (allowed (netBy counts (now (job .entry)))) (delay (netBy counts (now (job .entry)))) (now (x .entry)) (counts .stages + counts .segments) (now (x .exit)) r ⌝ }
+    requires { ⌜ Weighed counts (now job) (now weights) ⌝ }
+    requires { ⌜ ApproachingFrom counts (now job) (sideOf side) (now x) ⌝ }
+    ensures { λ r. ⌜ SweptFrom counts (now (job .entry)) (sideOf side) (now (x .entry)) (now (x .exit)) r ⌝ }
 {
     let places = counts.stages + counts.segments;
     // loads, by place
@@ -82,9 +78,9 @@ fn sweep(job: &[u8], counts: Counts, weights: &[u64; 68], x: &mut [u8], side: Si
 // The bound from a side, whatever x held before.
 pub fn bound(job: &[u8], counts: Counts, weights: &[u64; 68], x: &mut [u8], side: Side)
     requires { ⌜ Checked counts (now job) ⌝ }
-    requires { ⌜ WeightsFrom (netBy counts (now job)) 0 (now weights) ⌝ }
-    requires { ⌜ length (now x) ≡ counts .stages + counts .segments ⌝ }
-    ensures { λ r. ⌜ now (x .exit) ≡ boundOf (sideOf side) (allowed (netBy counts (now (job .entry)))) (delay (netBy counts (now (job .entry)))) ⌝ }
+    requires { ⌜ Weighed counts (now job) (now weights) ⌝ }
+    requires { ⌜ ForPlaces counts (now x) ⌝ }
+    ensures { λ r. ⌜ BoundFrom counts (now (job .entry)) (sideOf side) (now (x .exit)) ⌝ }
 {
     start(job, counts, x, side);
     while sweep(job, counts, weights, x, side) {}
@@ -93,7 +89,7 @@ pub fn bound(job: &[u8], counts: Counts, weights: &[u64; 68], x: &mut [u8], side
 // Question 13: is the lower bound at most the upper at each place?
 pub fn in_order(lower: &[u8], upper: &[u8], n: usize) -> bool
     requires { ⌜ (n ≤ length (now lower)) × (n ≤ length (now upper)) ⌝ }
-    ensures { λ r. ⌜ r ≡ every n (λ p. leb (at (now (lower .entry)) p) (at (now (upper .entry)) p)) ⌝ }
+    ensures { λ r. ⌜ r ≡ orderly n (now (lower .entry)) (now (upper .entry)) ⌝ }
 {
     let mut p = 0;
     while p < n {
@@ -116,7 +112,7 @@ fn choices(a: u8, b: u8) -> u64
 // Is room, the product of the numbers of indices between the bounds, at most 65,536?
 pub fn room_fits(lower: &[u8], upper: &[u8], n: usize) -> bool
     requires { ⌜ Between n (now lower) (now upper) ⌝ }
-    ensures { λ r. ⌜ r ≡ leb (product n (λ p. suc (at (now (upper .entry)) p - at (now (lower .entry)) p))) 65536 ⌝ }
+    ensures { λ r. ⌜ r ≡ roomy n (now (lower .entry)) (now (upper .entry)) ⌝ }
 {
     let mut room = 1;
     let mut p = 0;

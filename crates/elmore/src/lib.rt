@@ -7,7 +7,7 @@ ghost use mathlib.Core.Path.{_≡_};
 ghost use Prim.Native.Nat.{_<_, _≤_};
 ghost use Rattle.net.specs.Net.{netBy};
 ghost use Rattle.net.specs.Delay.{branch as branchOf, branches as branchesOf, branchesLoad, stageLoad, stageDelay, stagesDelay, gatesLoad, delay as delayOf};
-ghost use Rattle.links.specs.Links.{Linked, siblings};
+ghost use Rattle.links.specs.Links.{siblings, LinkedBy};
 ghost use Rattle.elmore.specs.Ready.{Ready};
 ghost use Rattle.elmore.specs.Step.{Fields, Empty, lag, RoomCharged, RoomBehind, Behind, RoomJoined, Joined};
 ghost use Rattle.elmore.specs.Tally.{Tally, FiguresOf};
@@ -106,7 +106,7 @@ fn branch(
     i: usize,
 ) -> Part
     requires { ⌜ Ready counts (now job) (now sizing) ⌝ }
-    requires { ⌜ Linked (netBy counts (now job)) (now first) (now next) ⌝ }
+    requires { ⌜ LinkedBy counts (now job) (now first) (now next) ⌝ }
     requires { ⌜ i < counts .segments ⌝ }
     ensures { λ r. ⌜ Tally (netBy counts (now (job .entry))) (now (sizing .entry)) branchOf i r ⌝ }
 {
@@ -128,7 +128,7 @@ fn branches(
     j: usize,
 ) -> Part
     requires { ⌜ Ready counts (now job) (now sizing) ⌝ }
-    requires { ⌜ Linked (netBy counts (now job)) (now first) (now next) ⌝ }
+    requires { ⌜ LinkedBy counts (now job) (now first) (now next) ⌝ }
     requires { ⌜ j ≤ counts .segments ⌝ }
     ensures { λ r. ⌜ Tally (netBy counts (now (job .entry))) (now (sizing .entry)) siblings j r ⌝ }
 {
@@ -144,7 +144,7 @@ fn branches(
 // The whole tree: the branches at the source.
 fn whole(job: &[u8], counts: Counts, first: &[usize], next: &[usize], sizing: &[u8]) -> Part
     requires { ⌜ Ready counts (now job) (now sizing) ⌝ }
-    requires { ⌜ Linked (netBy counts (now job)) (now first) (now next) ⌝ }
+    requires { ⌜ LinkedBy counts (now job) (now first) (now next) ⌝ }
     ensures { λ r. ⌜ Tally (netBy counts (now (job .entry))) (now (sizing .entry)) branchesOf 0 r ⌝ }
 {
     let root = first[0];
@@ -222,7 +222,7 @@ fn gates(job: &[u8], counts: Counts, sizing: &[u8]) -> Capacitance
 // The scaled delay of a sizing.
 pub fn delay(job: &[u8], counts: Counts, first: &[usize], next: &[usize], sizing: &[u8]) -> Delay
     requires { ⌜ Ready counts (now job) (now sizing) ⌝ }
-    requires { ⌜ Linked (netBy counts (now job)) (now first) (now next) ⌝ }
+    requires { ⌜ LinkedBy counts (now job) (now first) (now next) ⌝ }
     ensures { λ r. ⌜ r .0 ≡ delayOf (netBy counts (now (job .entry))) (now (sizing .entry)) ⌝ }
 {
     driven(job, counts, sizing, whole(job, counts, first, next, sizing))
@@ -237,7 +237,7 @@ pub fn figures(
     sizing: &[u8],
 ) -> DelayAndLoad
     requires { ⌜ Ready counts (now job) (now sizing) ⌝ }
-    requires { ⌜ Linked (netBy counts (now job)) (now first) (now next) ⌝ }
+    requires { ⌜ LinkedBy counts (now job) (now first) (now next) ⌝ }
     ensures { λ r. ⌜ FiguresOf (netBy counts (now (job .entry))) (now (sizing .entry)) r ⌝ }
 {
     let tree = whole(job, counts, first, next, sizing);

@@ -35,7 +35,8 @@ fn merge(x: &[u8], best: &mut [u8], side: Side)
 pub fn keep(x: &[u8], d: Delay, least: Delay, lean: &mut [u8], wide: &mut [u8]) -> Delay
     requires { ⌜ length (now x) ≡ length (now lean) ⌝ }
     requires { ⌜ length (now x) ≡ length (now wide) ⌝ }
-    ensures { λ r. ⌜ found (r .0) (now (lean .exit)) (now (wide .exit)) ≡ taken (now (x .entry)) (d .0) (found (least .0) (now (lean .entry)) (now (wide .entry))) ⌝ }
+    ensures { λ r. ⌜ found (r .0) (now (lean .exit)) (now (wide .exit))
+        ≡ taken (now (x .entry)) (d .0) (found (least .0) (now (lean .entry)) (now (wide .entry))) ⌝ }
 {
     if d.0 < least.0 {
         bytes::copy(x, lean);

@@ -5,7 +5,8 @@ use mathlib.Core.List.{List, _++_}
 use Prim.Native.Nat.{ℕ}
 use lib.Dec.{eqb}
 use lib.ListN.{drop}
-use Rattle.net.specs.Net.{Net}
+use Rattle.net.specs.declared.Counts.{Counts}
+use Rattle.net.specs.Net.{Net, netBy}
 use Rattle.net.specs.Sizings.{leastDelay, lean, wide, lowerBound, upperBound}
 use Rattle.net.specs.Answers.{replyLength, finishedReply, boundsReply}
 
@@ -24,3 +25,14 @@ pub record LeastOf (net : Net) (d : ℕ) (l w : List ℕ) : Type 0 where
 unfoldable pub bufferFrom : Net → ℕ → List ℕ → List ℕ
 bufferFrom net n before =
     cond (eqb n 0) (finishedReply net ++ drop (replyLength net) before) (cond (eqb n 14) (boundsReply net ++ drop (replyLength net) before) before)
+
+-- The same of the net of a job, by the counts of its records and its bytes.
+module _ (c : Counts) (b : List ℕ) where
+  abbrev pub BoundedBy : (lower upper : List ℕ) → Type 0
+  BoundedBy lower upper = Bounded (netBy c b) lower upper
+
+  abbrev pub LeastBy : ℕ → (l w : List ℕ) → Type 0
+  LeastBy d l w = LeastOf (netBy c b) d l w
+
+  abbrev pub bufferBy : ℕ → List ℕ → List ℕ
+  bufferBy n before = bufferFrom (netBy c b) n before

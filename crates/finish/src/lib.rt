@@ -2,12 +2,12 @@
 use net::Counts;
 use quantity::Delay;
 ghost use mathlib.Core.Path.{_≡_};
-ghost use Prim.Native.Nat.{suc, _+_, _*_, _≤_};
+ghost use Prim.Native.Nat.{suc, _*_, _≤_};
 ghost use lib.ListN.{length};
-ghost use Rattle.net.specs.Net.{netBy};
-ghost use Rattle.net.specs.Checked.{Checked};
-ghost use Rattle.place.specs.Partial.{WeightsFrom};
-ghost use Rattle.finish.specs.Parts.{Bounded, LeastOf, bufferFrom};
+ghost use Rattle.net.specs.Job.{placesBy};
+ghost use Rattle.net.specs.Checked.{Checked, ForPlaces};
+ghost use Rattle.place.specs.ByCounts.{Weighed};
+ghost use Rattle.finish.specs.Parts.{BoundedBy, LeastBy, bufferBy};
 
 // The least delay, lean and wide, by the search between the bounds; x is its working space.
 fn least(
@@ -21,10 +21,10 @@ fn least(
     wide: &mut [u8],
 ) -> Delay
     requires { ⌜ Checked counts (now job) ⌝ }
-    requires { ⌜ WeightsFrom (netBy counts (now job)) 0 (now weights) ⌝ }
-    requires { ⌜ Bounded (netBy counts (now job)) (now lower) (now upper) ⌝ }
-    requires { ⌜ (length (now lower) ≡ length (now x)) × (length (now lean) ≡ counts .stages + counts .segments) × (length (now wide) ≡ counts .stages + counts .segments) ⌝ }
-    ensures { λ r. ⌜ LeastOf (netBy counts (now (job .entry))) (r .0) (now (lean .exit)) (now (wide .exit)) ⌝ }
+    requires { ⌜ Weighed counts (now job) (now weights) ⌝ }
+    requires { ⌜ BoundedBy counts (now job) (now lower) (now upper) ⌝ }
+    requires { ⌜ (length (now lower) ≡ length (now x)) × ForPlaces counts (now lean) × ForPlaces counts (now wide) ⌝ }
+    ensures { λ r. ⌜ LeastBy counts (now (job .entry)) (r .0) (now (lean .exit)) (now (wide .exit)) ⌝ }
 {
     bytes::copy(lower, x);
     search::between(
@@ -53,11 +53,11 @@ fn find_and_write(
     reply: &mut [u8],
 )
     requires { ⌜ Checked counts (now job) ⌝ }
-    requires { ⌜ WeightsFrom (netBy counts (now job)) 0 (now weights) ⌝ }
-    requires { ⌜ Bounded (netBy counts (now job)) (now lower) (now upper) ⌝ }
-    requires { ⌜ (length (now x) ≡ counts .stages + counts .segments) × (length (now lean) ≡ counts .stages + counts .segments) × (length (now wide) ≡ counts .stages + counts .segments) ⌝ }
-    requires { ⌜ 8 * suc (counts .stages + counts .segments) ≤ length (now reply) ⌝ }
-    ensures { λ r. ⌜ now (reply .exit) ≡ bufferFrom (netBy counts (now (job .entry))) 0 (now (reply .entry)) ⌝ }
+    requires { ⌜ Weighed counts (now job) (now weights) ⌝ }
+    requires { ⌜ BoundedBy counts (now job) (now lower) (now upper) ⌝ }
+    requires { ⌜ ForPlaces counts (now x) × ForPlaces counts (now lean) × ForPlaces counts (now wide) ⌝ }
+    requires { ⌜ 8 * suc (placesBy counts) ≤ length (now reply) ⌝ }
+    ensures { λ r. ⌜ now (reply .exit) ≡ bufferBy counts (now (job .entry)) 0 (now (reply .entry)) ⌝ }
 {
     let delay = least(job, counts, weights, lower, upper, x, lean, wide);
     reply::finished(reply, delay, lower, upper, lean, wide);
@@ -73,10 +73,10 @@ pub fn finish(
     reply: &mut [u8],
 )
     requires { ⌜ Checked counts (now job) ⌝ }
-    requires { ⌜ WeightsFrom (netBy counts (now job)) 0 (now weights) ⌝ }
-    requires { ⌜ Bounded (netBy counts (now job)) (now lower) (now upper) ⌝ }
-    requires { ⌜ 8 * suc (counts .stages + counts .segments) ≤ length (now reply) ⌝ }
-    ensures { λ r. ⌜ now (reply .exit) ≡ bufferFrom (netBy counts (now (job .entry))) 0 (now (reply .entry)) ⌝ }
+    requires { ⌜ Weighed counts (now job) (now weights) ⌝ }
+    requires { ⌜ BoundedBy counts (now job) (now lower) (now upper) ⌝ }
+    requires { ⌜ 8 * suc (placesBy counts) ≤ length (now reply) ⌝ }
+    ensures { λ r. ⌜ now (reply .exit) ≡ bufferBy counts (now (job .entry)) 0 (now (reply .entry)) ⌝ }
 {
     let places = counts.stages + counts.segments;
     let mut x = [0u8; 68];

@@ -1,1 +1,2 @@
 pub mod WireAt
+pub mod Ranges

@@ -3,14 +3,13 @@ use net::Counts;
 use quantity::Capacitance;
 use quantity::Resistance;
 ghost use mathlib.Core.Path.{_≡_};
-ghost use Prim.Native.Nat.{_+_, _*_, _^_, _<_, _≤_};
+ghost use Prim.Native.Nat.{_+_, _^_, _<_, _≤_};
 ghost use lib.ListN.{length};
-ghost use mathlib.Core.Bool.{cond};
-ghost use lib.Dec.{ltb};
-ghost use Rattle.net.specs.Job.{byte, word, widthAt, sizeAt, placeAt, segmentAt};
+ghost use Rattle.net.specs.Job.{byte, word, widthAt, sizeAt, placeAt, segmentAt, placesBy};
 ghost use Rattle.net.specs.Net.{netBy};
 ghost use Rattle.net.specs.Checked.{Held};
 ghost use Rattle.job.specs.WireAt.{WireAt};
+ghost use Rattle.job.specs.Ranges.{rangeByte};
 
 // A segment's wire at one of its widths.
 pub struct Wire {
@@ -152,7 +151,7 @@ pub fn output(job: &[u8], counts: Counts, k: usize) -> Capacitance
 // A byte of place p's record.
 pub fn place_byte(job: &[u8], counts: Counts, p: usize, at: usize) -> u8
     requires { ⌜ Held counts (now job) ⌝ }
-    requires { ⌜ (p < counts .stages + counts .segments) × (at < 16) ⌝ }
+    requires { ⌜ (p < placesBy counts) × (at < 16) ⌝ }
     ensures { λ r. ⌜ r ≡ byte (now (job .entry)) (placeAt counts p + at) ⌝ }
 {
     job[16 * (counts.widths + counts.sizes + p) + at]
@@ -161,8 +160,8 @@ pub fn place_byte(job: &[u8], counts: Counts, p: usize, at: usize) -> u8
 // A byte of place p's record that a stage has at one offset and a segment at another.
 fn range_byte(job: &[u8], counts: Counts, p: usize, in_stage: usize, in_segment: usize) -> u8
     requires { ⌜ Held counts (now job) ⌝ }
-    requires { ⌜ (p < counts .stages + counts .segments) × (in_stage < 16) × (in_segment < 16) ⌝ }
-    ensures { λ r. ⌜ r ≡ cond (ltb p (counts .stages)) (byte (now (job .entry)) (placeAt counts p + in_stage)) (byte (now (job .entry)) (placeAt counts p + in_segment)) ⌝ }
+    requires { ⌜ (p < placesBy counts) × (in_stage < 16) × (in_segment < 16) ⌝ }
+    ensures { λ r. ⌜ r ≡ rangeByte counts (now (job .entry)) p in_stage in_segment ⌝ }
 {
     if p < counts.stages {
         return place_byte(job, counts, p, in_stage);
@@ -173,7 +172,7 @@ fn range_byte(job: &[u8], counts: Counts, p: usize, in_stage: usize, in_segment:
 // The lowest index that place p may have.
 pub fn lowest(job: &[u8], counts: Counts, p: usize) -> u8
     requires { ⌜ Held counts (now job) ⌝ }
-    requires { ⌜ p < counts .stages + counts .segments ⌝ }
+    requires { ⌜ p < placesBy counts ⌝ }
     ensures { λ r. ⌜ r ≡ netBy counts (now (job .entry)) .lowest p ⌝ }
 {
     range_byte(job, counts, p, 2, 13)
@@ -182,7 +181,7 @@ pub fn lowest(job: &[u8], counts: Counts, p: usize) -> u8
 // The highest index that place p may have.
 pub fn highest(job: &[u8], counts: Counts, p: usize) -> u8
     requires { ⌜ Held counts (now job) ⌝ }
-    requires { ⌜ p < counts .stages + counts .segments ⌝ }
+    requires { ⌜ p < placesBy counts ⌝ }
     ensures { λ r. ⌜ r ≡ netBy counts (now (job .entry)) .highest p ⌝ }
 {
     range_byte(job, counts, p, 3, 14)

@@ -3,7 +3,8 @@ use mathlib.Core.Path.{_≡_}
 use mathlib.Core.List.{List}
 use Prim.Native.Nat.{ℕ, suc, _-_, _≤_, _<_}
 use lib.ListN.{length, getD}
-use Rattle.net.specs.Net.{Net}
+use Rattle.net.specs.declared.Counts.{Counts}
+use Rattle.net.specs.Net.{Net, netBy}
 use Rattle.net.specs.Segments.{forest}
 
 -- Each segment hangs at a node that stands before it: what question 9 gives, and all that linking asks of a net.
@@ -23,6 +24,14 @@ pub record Linked (net : Net) (first next : List ℕ) : Type 0 where
   pub segments : net .segments ≤ length next
   pub firsts : (q : ℕ) → q ≤ net .segments → First net q 0 (getD first q 0)
   pub nexts : (i : ℕ) → i < net .segments → First net (net .parent i) (suc i) (getD next i 0)
+
+-- The same of the net of a job, by the counts of its records and its bytes.
+abbrev pub LinkedBy : Counts → List ℕ → List ℕ → List ℕ → Type 0
+LinkedBy c b first next = Linked (netBy c b) first next
+
+-- Both tables have kept their lengths.
+abbrev pub SameLengths : (first next first′ next′ : List ℕ) → Type 0
+SameLengths first next first′ next′ = (length first′ ≡ length first) × (length next′ ≡ length next)
 
 -- Before any segment is linked: of `long` entries those below q say that there is none of n.
 pub record Unlinked (n long : ℕ) (first : List ℕ) (q : ℕ) : Type 0 where

@@ -1,11 +1,10 @@
 // The segments at each node, found once for a job, so that a walk over the tree asks each segment once.
 use net::Counts;
-ghost use mathlib.Core.Path.{_≡_};
 ghost use Prim.Native.Nat.{_+_, _<_, _≤_};
 ghost use lib.ListN.{length};
 ghost use Rattle.net.specs.Net.{netBy};
 ghost use Rattle.net.specs.Checked.{Held};
-ghost use Rattle.links.specs.Links.{Parents, Unlinked, Linked};
+ghost use Rattle.links.specs.Links.{Parents, Unlinked, LinkedBy, SameLengths};
 
 // No segment is linked yet: at each node the first is the one past the last.
 fn unlink(first: &mut [usize], n: usize)
@@ -24,8 +23,8 @@ pub fn link(job: &[u8], counts: Counts, first: &mut [usize], next: &mut [usize])
     requires { ⌜ Held counts (now job) ⌝ }
     requires { ⌜ Parents (netBy counts (now job)) ⌝ }
     requires { ⌜ (counts .segments < length (now first)) × (counts .segments ≤ length (now next)) ⌝ }
-    ensures linked { λ r. ⌜ Linked (netBy counts (now (job .entry))) (now (first .exit)) (now (next .exit)) ⌝ }
-    ensures lengths { λ r. ⌜ (length (now (first .exit)) ≡ length (now (first .entry))) × (length (now (next .exit)) ≡ length (now (next .entry))) ⌝ }
+    ensures linked { λ r. ⌜ LinkedBy counts (now (job .entry)) (now (first .exit)) (now (next .exit)) ⌝ }
+    ensures lengths { λ r. ⌜ SameLengths (now (first .entry)) (now (next .entry)) (now (first .exit)) (now (next .exit)) ⌝ }
 {
     unlink(first, counts.segments);
     let mut j = counts.segments;

@@ -5,10 +5,11 @@ use mathlib.Core.List.{List}
 use Prim.Native.Nat.{ℕ, suc, _+_, _*_, _≤_, _<_}
 use lib.ListN.{length}
 use Rattle.lattice.specs.Lists.{at}
-use Rattle.lattice.specs.Space.{Falls, Rises}
+use Rattle.lattice.specs.Space.{Falls, Rises, Allowed}
 use Rattle.net.specs.declared.Counts.{Counts}
 use Rattle.net.specs.Job.{countsOf, placesBy, rowResistance, rowCapacitance, sizeResistance, sizeGate, sizeOutput, segmentLength}
 use Rattle.net.specs.Net.{Net, places, netBy}
+use Rattle.net.specs.Sizings.{allowed}
 
 -- The records that are counted are there.
 pub record Held (c : Counts) (b : List ℕ) : Type 0 where
@@ -40,6 +41,14 @@ pub record Checked (c : Counts) (b : List ℕ) : Type 0 where
   pub lengths : (i : ℕ) → i < c .segments → segmentLength c b i ≤ 1000
   pub sinks : (i : ℕ) → i < c .segments → netBy c b .sink i ≤ 100000
   pub weights : (i : ℕ) → i < c .segments → netBy c b .weight i ≤ 255
+
+-- x is an allowed sizing of the job's net.
+abbrev pub AllowedBy : Counts → List ℕ → List ℕ → Type 0
+AllowedBy c b x = Allowed (allowed (netBy c b)) x
+
+-- x has an index for each place, and no more.
+abbrev pub ForPlaces : Counts → List ℕ → Type 0
+ForPlaces c x = length x ≡ placesBy c
 
 -- A sizing, with what may stand behind it, has at each place an index in the place's range.
 pub record InRanges (net : Net) (x : List ℕ) : Type 0 where

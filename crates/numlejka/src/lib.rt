@@ -6,6 +6,7 @@ use operations::Refinement;
 ghost use mathlib.Core.Path.{_≡_};
 ghost use lib.ListN.{length};
 ghost use Rattle.net.specs.Answers.{measured, refined, sizeNumber, sizeBuffer};
+ghost use Rattle.net.specs.Promises.{Promises};
 ghost use Rattle.lattice.specs.SideOf.{sideOf};
 ghost use Rattle.numlejka.specs.Results.{answered, sideBy, chosenSlice};
 
@@ -76,6 +77,7 @@ pub extern "C" fn numlejka_choose(job: &[u8], x: &[u8], y: &[u8]) -> usize
 pub extern "C" fn numlejka_size(job: &[u8], reply: &mut [u8]) -> usize
     ensures number { λ r. ⌜ r ≡ sizeNumber (now (job .entry)) (length (now (reply .entry))) ⌝ }
     ensures buffer { λ r. ⌜ now (reply .exit) ≡ sizeBuffer (now (job .entry)) (now (reply .entry)) ⌝ }
+    ensures promises { λ r. ⌜ Promises (now (job .entry)) (now (reply .entry)) r (now (reply .exit)) ⌝ }
 {
     size::size(job, reply)
 }

@@ -5,17 +5,14 @@ use net::Counts;
 use quantity::Capacitance;
 ghost use mathlib.Core.Path.{_≡_};
 ghost use mathlib.Core.Bool.{true, false};
-ghost use Prim.Native.Nat.{_+_, _<_};
+ghost use Prim.Native.Nat.{_<_};
 ghost use lib.ListN.{length};
 ghost use Rattle.lattice.specs.SideOf.{sideOf};
-ghost use Rattle.lattice.specs.Space.{Allowed};
-ghost use Rattle.lattice.specs.Refine.{best, refine as refinedAt};
-ghost use Rattle.net.specs.Net.{netBy};
-ghost use Rattle.net.specs.Delay.{delay as delayOf};
-ghost use Rattle.net.specs.Sizings.{allowed as allowedOf};
-ghost use Rattle.net.specs.Checked.{Checked};
+ghost use Rattle.net.specs.Job.{placesBy};
+ghost use Rattle.net.specs.Checked.{Checked, AllowedBy};
 ghost use Rattle.net.specs.Answers.{measured, refined, chosen};
-ghost use Rattle.links.specs.Links.{Linked};
+ghost use Rattle.links.specs.Links.{LinkedBy};
+ghost use Rattle.refine.specs.Settled.{bestAt, Settled};
 ghost use Rattle.operations.specs.Outcomes.{measuredBy, refinedBy, measureRefused, refineRefused, Preferred, fromSecond};
 
 // What measure answers: the figures of the sizing, or the number of the first question that fails.
@@ -67,10 +64,10 @@ fn refine_at(
     side: Side,
 )
     requires { ⌜ Checked counts (now job) ⌝ }
-    requires { ⌜ Linked (netBy counts (now job)) (now first) (now next) ⌝ }
-    requires { ⌜ Allowed (allowedOf (netBy counts (now job))) (now x) ⌝ }
-    requires { ⌜ place < counts .stages + counts .segments ⌝ }
-    ensures { λ r. ⌜ now (x .exit) ≡ refinedAt (sideOf side) (allowedOf (netBy counts (now (job .entry)))) (delayOf (netBy counts (now (job .entry)))) (now (x .entry)) place ⌝ }
+    requires { ⌜ LinkedBy counts (now job) (now first) (now next) ⌝ }
+    requires { ⌜ AllowedBy counts (now job) (now x) ⌝ }
+    requires { ⌜ place < placesBy counts ⌝ }
+    ensures { λ r. ⌜ Settled counts (now (job .entry)) (sideOf side) place (now (x .entry)) (now (x .exit)) ⌝ }
 {
     let mut weights = [0u64; 68];
     weights::weigh(job, counts, first, next, &mut weights);
@@ -104,11 +101,11 @@ fn best_index(
     side: Side,
 ) -> u8
     requires { ⌜ Checked counts (now job) ⌝ }
-    requires { ⌜ Linked (netBy counts (now job)) (now first) (now next) ⌝ }
-    requires { ⌜ Allowed (allowedOf (netBy counts (now job))) (now sizing) ⌝ }
+    requires { ⌜ LinkedBy counts (now job) (now first) (now next) ⌝ }
+    requires { ⌜ AllowedBy counts (now job) (now sizing) ⌝ }
     requires { ⌜ length (now sizing) ≡ length (now x) ⌝ }
-    requires { ⌜ place < counts .stages + counts .segments ⌝ }
-    ensures { λ r. ⌜ r ≡ best (sideOf side) (allowedOf (netBy counts (now (job .entry)))) (delayOf (netBy counts (now (job .entry)))) (now (sizing .entry)) place ⌝ }
+    requires { ⌜ place < placesBy counts ⌝ }
+    ensures { λ r. ⌜ r ≡ bestAt counts (now (job .entry)) (sideOf side) place (now (sizing .entry)) ⌝ }
 {
     bytes::copy(sizing, x);
     refine_at(job, counts, first, next, x, place, side);

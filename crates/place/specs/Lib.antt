@@ -1,2 +1,3 @@
 pub mod Partial
 pub mod Held
+pub mod ByCounts

@@ -4,16 +4,14 @@ use quantity::Capacitance;
 use quantity::Delay;
 use quantity::Resistance;
 ghost use mathlib.Core.Path.{_≡_};
-ghost use Prim.Native.Nat.{_+_, _*_, _^_, _<_, _≤_};
+ghost use Prim.Native.Nat.{_+_, _*_, _<_, _≤_};
 ghost use lib.ListN.{length};
 ghost use Rattle.lattice.specs.Lists.{at};
-ghost use Rattle.lattice.specs.Space.{Allowed};
+ghost use Rattle.net.specs.Job.{placesBy};
 ghost use Rattle.net.specs.Net.{netBy};
-ghost use Rattle.net.specs.Places.{placeWeight, loadAt};
-ghost use Rattle.net.specs.Sizings.{allowed};
-ghost use Rattle.net.specs.Checked.{Checked};
-ghost use Rattle.place.specs.Partial.{StepOf, WeightsFrom};
-ghost use Rattle.place.specs.Held.{hangsAt, sinkAt, slope as slopeOf, before, onward as onwardOf, DrivenFrom, UpstreamTo};
+ghost use Rattle.net.specs.Places.{loadAt};
+ghost use Rattle.net.specs.Checked.{Checked, AllowedBy};
+ghost use Rattle.place.specs.ByCounts.{Weighed, HangsAt, SinkAt, CanDrive, CanSlope, SlopeAt, CanStep, Stepped, Driven, onwardFrom, upstreamOf, Upstream, CanStage, CanSegment, CanCharge, Charged};
 
 // What a place adds at one of its indices: its part of the scaled delay with what its load costs upstream, and the load that it shows.
 pub struct PlaceStep {
@@ -24,8 +22,8 @@ pub struct PlaceStep {
 // The node that place p hangs at.
 pub fn hangs_at(job: &[u8], counts: Counts, p: usize) -> usize
     requires { ⌜ Checked counts (now job) ⌝ }
-    requires { ⌜ p < counts .stages + counts .segments ⌝ }
-    ensures { λ r. ⌜ (r ≡ hangsAt (netBy counts (now (job .entry))) p) × (r ≤ p) ⌝ }
+    requires { ⌜ p < placesBy counts ⌝ }
+    ensures { λ r. ⌜ HangsAt counts (now (job .entry)) p r ⌝ }
 {
     if p < counts.stages {
         return p;
@@ -36,8 +34,8 @@ pub fn hangs_at(job: &[u8], counts: Counts, p: usize) -> usize
 // The sink at the far end of place p.
 fn sink_at(job: &[u8], counts: Counts, p: usize) -> Capacitance
     requires { ⌜ Checked counts (now job) ⌝ }
-    requires { ⌜ p < counts .stages + counts .segments ⌝ }
-    ensures { λ r. ⌜ (r .0 ≡ sinkAt (netBy counts (now (job .entry))) p) × (r .0 ≤ 100000) ⌝ }
+    requires { ⌜ p < placesBy counts ⌝ }
+    ensures { λ r. ⌜ SinkAt counts (now (job .entry)) p (r .0) ⌝ }
 {
     if p < counts.stages {
         return Capacitance(0);
@@ -48,7 +46,7 @@ fn sink_at(job: &[u8], counts: Counts, p: usize) -> Capacitance
 // The load that place p shows at the index k, where it drives the load `driven`.
 fn shown_load(job: &[u8], counts: Counts, p: usize, k: u8, driven: Capacitance) -> Capacitance
     requires { ⌜ Checked counts (now job) ⌝ }
-    requires { ⌜ (p < counts .stages + counts .segments) × (k ≤ netBy counts (now job) .highest p) × (driven .0 ≤ 12900000) ⌝ }
+    requires { ⌜ CanDrive counts (now job) p k (driven .0) ⌝ }
     ensures { λ r. ⌜ r .0 ≡ loadAt (netBy counts (now (job .entry))) p k (driven .0) ⌝ }
 {
     let index = job::index(k);
@@ -62,10 +60,10 @@ fn shown_load(job: &[u8], counts: Counts, p: usize, k: u8, driven: Capacitance) 
 // What the places drive where free places show no load, in one pass from the last place to the first.
 pub fn drive(job: &[u8], counts: Counts, lower: &[u8], upper: &[u8], driven: &mut [u64; 68])
     requires { ⌜ Checked counts (now job) ⌝ }
-    requires { ⌜ Allowed (allowed (netBy counts (now job))) (now lower) ⌝ }
-    requires { ⌜ counts .stages + counts .segments ≤ length (now upper) ⌝ }
-    requires { ⌜ counts .stages + counts .segments ≤ length (now driven) ⌝ }
-    ensures { λ r. ⌜ DrivenFrom (netBy counts (now (job .entry))) (now (lower .entry)) (now (upper .entry)) 0 (now (driven .exit)) ⌝ }
+    requires { ⌜ AllowedBy counts (now job) (now lower) ⌝ }
+    requires { ⌜ placesBy counts ≤ length (now upper) ⌝ }
+    requires { ⌜ placesBy counts ≤ length (now driven) ⌝ }
+    ensures { λ r. ⌜ Driven counts (now (job .entry)) (now (lower .entry)) (now (upper .entry)) (now (driven .exit)) ⌝ }
 {
     // loads, by node
     let mut gathered = [0u64; 69];
@@ -88,8 +86,8 @@ pub fn drive(job: &[u8], counts: Counts, lower: &[u8], upper: &[u8], driven: &mu
 // What the delay of place p, of the weight `weight` and at the index k, grows by with each unit of the load that it drives.
 fn slope(job: &[u8], counts: Counts, weight: u64, p: usize, k: u8) -> Resistance
     requires { ⌜ Checked counts (now job) ⌝ }
-    requires { ⌜ (p < counts .stages + counts .segments) × (k ≤ netBy counts (now job) .highest p) × (weight ≡ placeWeight (netBy counts (now job)) p) ⌝ }
-    ensures { λ r. ⌜ (r .0 ≡ slopeOf (netBy counts (now (job .entry))) p k) × (r .0 ≤ 6528000000) ⌝ }
+    requires { ⌜ CanSlope counts (now job) weight p k ⌝ }
+    ensures { λ r. ⌜ SlopeAt counts (now (job .entry)) p k (r .0) ⌝ }
 {
     let index = job::index(k);
     if p < counts.stages {
@@ -111,11 +109,11 @@ fn onward(
     a: usize,
 ) -> Resistance
     requires { ⌜ Checked counts (now job) ⌝ }
-    requires { ⌜ WeightsFrom (netBy counts (now job)) 0 (now weights) ⌝ }
-    requires { ⌜ Allowed (allowed (netBy counts (now job))) (now lower) ⌝ }
-    requires { ⌜ counts .stages + counts .segments ≤ length (now upper) ⌝ }
-    requires { ⌜ (a < counts .stages + counts .segments) × (at (now upstream) a ≤ a * 6528000000) ⌝ }
-    ensures { λ r. ⌜ r .0 ≡ onwardOf (netBy counts (now (job .entry))) (now (lower .entry)) (now (upper .entry)) (now (upstream .entry)) a ⌝ }
+    requires { ⌜ Weighed counts (now job) (now weights) ⌝ }
+    requires { ⌜ AllowedBy counts (now job) (now lower) ⌝ }
+    requires { ⌜ placesBy counts ≤ length (now upper) ⌝ }
+    requires { ⌜ (a < placesBy counts) × (at (now upstream) a ≤ a * 6528000000) ⌝ }
+    ensures { λ r. ⌜ r .0 ≡ onwardFrom counts (now (job .entry)) (now (lower .entry)) (now (upper .entry)) (now (upstream .entry)) a ⌝ }
 {
     if lower[a] < upper[a] {
         return Resistance(0);
@@ -138,12 +136,12 @@ pub fn upstream_at(
     p: usize,
 ) -> Resistance
     requires { ⌜ Checked counts (now job) ⌝ }
-    requires { ⌜ WeightsFrom (netBy counts (now job)) 0 (now weights) ⌝ }
-    requires { ⌜ Allowed (allowed (netBy counts (now job))) (now lower) ⌝ }
-    requires { ⌜ counts .stages + counts .segments ≤ length (now upper) ⌝ }
-    requires { ⌜ p < counts .stages + counts .segments ⌝ }
-    requires { ⌜ UpstreamTo (netBy counts (now job)) (now lower) (now upper) p (now upstream) ⌝ }
-    ensures { λ r. ⌜ r .0 ≡ before (onwardOf (netBy counts (now (job .entry))) (now (lower .entry)) (now (upper .entry)) (now (upstream .entry))) (hangsAt (netBy counts (now (job .entry))) p) ⌝ }
+    requires { ⌜ Weighed counts (now job) (now weights) ⌝ }
+    requires { ⌜ AllowedBy counts (now job) (now lower) ⌝ }
+    requires { ⌜ placesBy counts ≤ length (now upper) ⌝ }
+    requires { ⌜ p < placesBy counts ⌝ }
+    requires { ⌜ Upstream counts (now job) (now lower) (now upper) p (now upstream) ⌝ }
+    ensures { λ r. ⌜ r .0 ≡ upstreamOf counts (now (job .entry)) (now (lower .entry)) (now (upper .entry)) (now (upstream .entry)) p ⌝ }
 {
     let node = hangs_at(job, counts, p);
     if node == 0 {
@@ -163,12 +161,12 @@ pub fn go_upstream(
     n: usize,
 )
     requires { ⌜ Checked counts (now job) ⌝ }
-    requires { ⌜ WeightsFrom (netBy counts (now job)) 0 (now weights) ⌝ }
-    requires { ⌜ Allowed (allowed (netBy counts (now job))) (now lower) ⌝ }
-    requires { ⌜ counts .stages + counts .segments ≤ length (now upper) ⌝ }
-    requires { ⌜ n ≤ counts .stages + counts .segments ⌝ }
-    requires { ⌜ counts .stages + counts .segments ≤ length (now upstream) ⌝ }
-    ensures { λ r. ⌜ UpstreamTo (netBy counts (now (job .entry))) (now (lower .entry)) (now (upper .entry)) n (now (upstream .exit)) ⌝ }
+    requires { ⌜ Weighed counts (now job) (now weights) ⌝ }
+    requires { ⌜ AllowedBy counts (now job) (now lower) ⌝ }
+    requires { ⌜ placesBy counts ≤ length (now upper) ⌝ }
+    requires { ⌜ n ≤ placesBy counts ⌝ }
+    requires { ⌜ placesBy counts ≤ length (now upstream) ⌝ }
+    ensures { λ r. ⌜ Upstream counts (now (job .entry)) (now (lower .entry)) (now (upper .entry)) n (now (upstream .exit)) ⌝ }
 {
     let mut p = 0;
     while p < n {
@@ -180,8 +178,8 @@ pub fn go_upstream(
 
 // A step of the weighted delay `own` and the load `load`, which is charged through the resistance upstream too.
 fn charged_upstream(upstream: Resistance, own: Delay, load: Capacitance) -> PlaceStep
-    requires { ⌜ (upstream .0 ≤ 443904000000) × (own .0 ≤ 84864000000000000) × (load .0 ≤ 13000000) ⌝ }
-    ensures { λ r. ⌜ (r .delay .0 ≡ own .0 + upstream .0 * load .0) × (r .load .0 ≡ load .0) × (r .delay .0 < 2 ^ 63) ⌝ }
+    requires { ⌜ CanCharge (upstream .0) (own .0) (load .0) ⌝ }
+    ensures { λ r. ⌜ Charged (upstream .0) (own .0) (load .0) r ⌝ }
 {
     PlaceStep {
         delay: quantity::add_delay(own, quantity::delay_through(upstream, load)),
@@ -200,8 +198,8 @@ fn stage_step(
     driven: Capacitance,
 ) -> PlaceStep
     requires { ⌜ Checked counts (now job) ⌝ }
-    requires { ⌜ (s < counts .stages) × (k < counts .sizes) × (weight ≤ 32640) × (upstream .0 ≤ 443904000000) × (driven .0 ≤ 12900000) ⌝ }
-    ensures { λ r. ⌜ StepOf (netBy counts (now (job .entry))) weight (upstream .0) s k (driven .0) r ⌝ }
+    requires { ⌜ CanStage counts weight (upstream .0) s k (driven .0) ⌝ }
+    ensures { λ r. ⌜ Stepped counts (now (job .entry)) weight (upstream .0) s k (driven .0) r ⌝ }
 {
     let resistance = job::driver_resistance(job, counts, k);
     let charged = quantity::add_capacitance(job::output(job, counts, k), driven);
@@ -220,8 +218,8 @@ fn segment_step(
     driven: Capacitance,
 ) -> PlaceStep
     requires { ⌜ Checked counts (now job) ⌝ }
-    requires { ⌜ (i < counts .segments) × (k < counts .widths) × (weight ≤ 32640) × (upstream .0 ≤ 443904000000) × (driven .0 ≤ 12900000) ⌝ }
-    ensures { λ r. ⌜ StepOf (netBy counts (now (job .entry))) weight (upstream .0) (counts .stages + i) k (driven .0) r ⌝ }
+    requires { ⌜ CanSegment counts weight (upstream .0) i k (driven .0) ⌝ }
+    ensures { λ r. ⌜ Stepped counts (now (job .entry)) weight (upstream .0) (counts .stages + i) k (driven .0) r ⌝ }
 {
     let wire = job::wire_at(job, counts, i, k);
     let own = wire.capacitance;
@@ -242,8 +240,8 @@ pub fn step(
     driven: Capacitance,
 ) -> PlaceStep
     requires { ⌜ Checked counts (now job) ⌝ }
-    requires { ⌜ (p < counts .stages + counts .segments) × (k ≤ netBy counts (now job) .highest p) × (weight ≤ 32640) × (upstream .0 ≤ 443904000000) × (driven .0 ≤ 12900000) ⌝ }
-    ensures { λ r. ⌜ StepOf (netBy counts (now (job .entry))) weight (upstream .0) p k (driven .0) r ⌝ }
+    requires { ⌜ CanStep counts (now job) weight (upstream .0) p k (driven .0) ⌝ }
+    ensures { λ r. ⌜ Stepped counts (now (job .entry)) weight (upstream .0) p k (driven .0) r ⌝ }
 {
     let index = job::index(k);
     if p < counts.stages {

@@ -5,18 +5,15 @@ use quantity::Capacitance;
 use quantity::Delay;
 use quantity::Resistance;
 ghost use mathlib.Core.Path.{_≡_};
-ghost use Prim.Native.Nat.{suc, _+_, _<_};
+ghost use Prim.Native.Nat.{suc, _<_};
 ghost use Rattle.lattice.specs.SideOf.{sideOf};
-ghost use Rattle.lattice.specs.Space.{Allowed};
-ghost use Rattle.lattice.specs.Refine.{refine as refinedAt};
+ghost use Rattle.net.specs.Job.{placesBy};
 ghost use Rattle.net.specs.Net.{netBy};
-ghost use Rattle.net.specs.Delay.{delay as delayOf};
 ghost use Rattle.net.specs.Places.{drivenLoad};
-ghost use Rattle.net.specs.Sizings.{allowed};
-ghost use Rattle.net.specs.Checked.{Checked};
-ghost use Rattle.place.specs.Partial.{WeightsFrom};
-ghost use Rattle.place.specs.Held.{UpstreamTo};
+ghost use Rattle.net.specs.Checked.{Checked, AllowedBy};
+ghost use Rattle.place.specs.ByCounts.{Weighed, Upstream};
 ghost use Rattle.refine.specs.Margin.{marginOf};
+ghost use Rattle.refine.specs.Settled.{Settled};
 
 // Below the least delay so far plus this margin the delay of a larger index wins: from above also where it ties.
 fn margin(side: Side) -> u64
@@ -41,12 +38,12 @@ pub fn settle(
     side: Side,
 )
     requires { ⌜ Checked counts (now job) ⌝ }
-    requires { ⌜ WeightsFrom (netBy counts (now job)) 0 (now weights) ⌝ }
-    requires { ⌜ Allowed (allowed (netBy counts (now job))) (now x) ⌝ }
-    requires { ⌜ place < counts .stages + counts .segments ⌝ }
-    requires { ⌜ UpstreamTo (netBy counts (now job)) (now x) (now x) (suc place) (now upstream) ⌝ }
+    requires { ⌜ Weighed counts (now job) (now weights) ⌝ }
+    requires { ⌜ AllowedBy counts (now job) (now x) ⌝ }
+    requires { ⌜ place < placesBy counts ⌝ }
+    requires { ⌜ Upstream counts (now job) (now x) (now x) (suc place) (now upstream) ⌝ }
     requires { ⌜ driven .0 ≡ drivenLoad (netBy counts (now job)) (now x) place ⌝ }
-    ensures { λ r. ⌜ now (x .exit) ≡ refinedAt (sideOf side) (allowed (netBy counts (now (job .entry)))) (delayOf (netBy counts (now (job .entry)))) (now (x .entry)) place ⌝ }
+    ensures { λ r. ⌜ Settled counts (now (job .entry)) (sideOf side) place (now (x .entry)) (now (x .exit)) ⌝ }
 {
     let weight = weights[place];
     let before = Resistance(upstream[place]);

@@ -1,8 +1,9 @@
 -- The bytes of a reply behind the delay's.
-use mathlib.Core.List.{List, _∷_, flatMap}
-use Prim.Native.Nat.{ℕ}
-use lib.ListN.{replicate}
-use Rattle.lattice.specs.Lists.{from}
+use mathlib.Core.List.{List, _∷_, _++_, flatMap}
+use Prim.Native.Nat.{ℕ, suc, _*_}
+use lib.ListN.{length, drop, replicate}
+use Rattle.lattice.specs.Lists.{at, from}
+use Rattle.net.specs.Answers.{replyRecords}
 
 -- The record of a place: lower, upper, lean, wide and four zero bytes.
 abbrev pub placeBytes : ℕ → ℕ → ℕ → ℕ → List ℕ
@@ -11,3 +12,14 @@ placeBytes lower upper lean wide = lower ∷ upper ∷ lean ∷ wide ∷ replica
 -- The records of n places from k on.
 unfoldable pub placesBytes : ℕ → ℕ → (lower upper lean wide : ℕ → ℕ) → List ℕ
 placesBytes k n lower upper lean wide = flatMap (λ p. placeBytes (lower p) (upper p) (lean p) (wide p)) (from k n)
+
+-- The records of as many places as `lower` has.
+abbrev pub recordsOf : (lower upper lean wide : List ℕ) → List ℕ
+recordsOf lower upper lean wide = placesBytes 0 (length lower) (at lower) (at upper) (at lean) (at wide)
+
+-- The buffer after a reply of n places with the delay's eight bytes `delay`, and after one that has the bounds and all else 255.
+abbrev pub replied : ℕ → (delay lower upper lean wide buffer : List ℕ) → List ℕ
+replied n delay lower upper lean wide buffer = replyRecords n delay (at lower) (at upper) (at lean) (at wide) ++ drop (8 * suc n) buffer
+
+abbrev pub boundsReplied : ℕ → (lower upper buffer : List ℕ) → List ℕ
+boundsReplied n lower upper buffer = replyRecords n (replicate 8 255) (at lower) (at upper) (λ p. 255) (λ p. 255) ++ drop (8 * suc n) buffer

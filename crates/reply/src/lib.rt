@@ -1,13 +1,11 @@
 // Writes the reply of `size` into the caller's buffer: eight bytes for the delay and for each place.
 use quantity::Delay;
 ghost use mathlib.Core.Path.{_≡_};
-ghost use mathlib.Core.List.{_++_};
 ghost use Prim.Native.Nat.{_+_, _*_, _≤_, _<_, suc};
-ghost use lib.ListN.{length, drop, replicate};
+ghost use lib.ListN.{length};
 ghost use lib.Seq.{sets};
-ghost use Rattle.lattice.specs.Lists.{at};
-ghost use Rattle.net.specs.Answers.{littleEndian, replyRecords};
-ghost use Rattle.reply.specs.Records.{placeBytes, placesBytes};
+ghost use Rattle.net.specs.Answers.{littleEndian};
+ghost use Rattle.reply.specs.Records.{placeBytes, recordsOf, replied, boundsReplied};
 
 // A byte as a number of eight bytes.
 fn widened(b: u8) -> u64
@@ -43,7 +41,8 @@ fn put_places(buffer: &mut [u8], lower: &[u8], upper: &[u8], lean: &[u8], wide: 
     requires { ⌜ length (now lower) ≤ length (now upper) ⌝ }
     requires { ⌜ length (now lower) ≤ length (now lean) ⌝ }
     requires { ⌜ length (now lower) ≤ length (now wide) ⌝ }
-    ensures { λ r. ⌜ now (buffer .exit) ≡ sets (now (buffer .entry)) 8 (placesBytes 0 (length (now (lower .entry))) (at (now (lower .entry))) (at (now (upper .entry))) (at (now (lean .entry))) (at (now (wide .entry)))) ⌝ }
+    ensures { λ r. ⌜ now (buffer .exit) ≡ sets (now (buffer .entry)) 8
+        (recordsOf (now (lower .entry)) (now (upper .entry)) (now (lean .entry)) (now (wide .entry))) ⌝ }
 {
     let mut p = 0;
     while p < lower.len() {
@@ -61,7 +60,8 @@ fn put_reply(buffer: &mut [u8], delay: u64, lower: &[u8], upper: &[u8], lean: &[
     requires { ⌜ length (now lower) ≤ length (now wide) ⌝ }
     ensures { λ r. do
       n ← ⟦lower.len()⟧ .entry
-      ⌜ now (buffer .exit) ≡ replyRecords n (littleEndian 8 delay) (at (now (lower .entry))) (at (now (upper .entry))) (at (now (lean .entry))) (at (now (wide .entry))) ++ drop (8 * suc n) (now (buffer .entry)) ⌝ }
+      ⌜ now (buffer .exit) ≡ replied n (littleEndian 8 delay)
+          (now (lower .entry)) (now (upper .entry)) (now (lean .entry)) (now (wide .entry)) (now (buffer .entry)) ⌝ }
 {
     put(buffer, 0, delay);
     put_places(buffer, lower, upper, lean, wide);
@@ -82,7 +82,8 @@ pub fn finished(
     requires { ⌜ length (now wide) ≡ length (now lower) ⌝ }
     ensures { λ r. do
       n ← ⟦lower.len()⟧ .entry
-      ⌜ now (buffer .exit) ≡ replyRecords n (littleEndian 8 (least .0)) (at (now (lower .entry))) (at (now (upper .entry))) (at (now (lean .entry))) (at (now (wide .entry))) ++ drop (8 * suc n) (now (buffer .entry)) ⌝ }
+      ⌜ now (buffer .exit) ≡ replied n (littleEndian 8 (least .0))
+          (now (lower .entry)) (now (upper .entry)) (now (lean .entry)) (now (wide .entry)) (now (buffer .entry)) ⌝ }
 {
     put_reply(buffer, least.0, lower, upper, lean, wide);
 }
@@ -94,7 +95,7 @@ pub fn bounds_only(buffer: &mut [u8], lower: &[u8], upper: &[u8])
     requires { ⌜ length (now lower) ≤ 68 ⌝ }
     ensures { λ r. do
       n ← ⟦lower.len()⟧ .entry
-      ⌜ now (buffer .exit) ≡ replyRecords n (replicate 8 255) (at (now (lower .entry))) (at (now (upper .entry))) (λ p. 255) (λ p. 255) ++ drop (8 * suc n) (now (buffer .entry)) ⌝ }
+      ⌜ now (buffer .exit) ≡ boundsReplied n (now (lower .entry)) (now (upper .entry)) (now (buffer .entry)) ⌝ }
 {
     let none = [255u8; 68];
     put_reply(buffer, 18446744073709551615, lower, upper, &none, &none);

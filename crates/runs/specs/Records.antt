@@ -1,15 +1,19 @@
 -- Tests of one record, which the questions ask of each record of a run. A run starts at the record `start`; k is a record's place in it, from 0.
 use mathlib.Core.Bool.{Bool, not, _&&_, _||_}
 use mathlib.Core.List.{List}
-use Prim.Native.Nat.{ℕ, _+_, _*_}
+use Prim.Native.Nat.{ℕ, _+_, _*_, _≤_}
 use lib.Dec.{leb, ltb, eqb}
-use lib.ListN.{getD}
+use lib.ListN.{length, getD}
 use Rattle.lattice.specs.Lists.{every}
 use Rattle.net.specs.Job.{byte, word, kind, count}
 use Rattle.net.specs.Questions.{inRange}
 use Rattle.net.specs.declared.Counts.{Counts}
 
 module _ (b : List ℕ) where
+  -- All records of a run are there.
+  abbrev pub HasRun : ℕ → ℕ → Type 0
+  HasRun start n = 16 * (start + n) ≤ length b
+
   -- The byte and the word at `at` of a record.
   abbrev pub byteOf : ℕ → ℕ → ℕ → ℕ
   byteOf start at k = byte b (16 * (start + k) + at)

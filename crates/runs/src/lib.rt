@@ -8,7 +8,7 @@ ghost use lib.Dec.{eqb};
 ghost use lib.ListN.{length};
 ghost use Rattle.lattice.specs.Lists.{every};
 ghost use Rattle.runs.specs.Kinds.{Kinds, UpTo, Ends};
-ghost use Rattle.runs.specs.Records.{byteOf, wordOf, kindInOrder, numberInOrder, zeroFrom, zeroBytes, byteWithin, wordWithin, wordBelow, rangeWithin, parentInOrder, sinkOrNone, sinkOrBranch, countsTo};
+ghost use Rattle.runs.specs.Records.{byteOf, wordOf, kindInOrder, numberInOrder, zeroFrom, zeroBytes, byteWithin, wordWithin, wordBelow, rangeWithin, parentInOrder, sinkOrNone, sinkOrBranch, countsTo, HasRun};
 
 // The byte at `at` of the record k after `start`.
 pub fn byte_of(job: &[u8], start: usize, at: usize, k: usize) -> usize
@@ -44,7 +44,7 @@ pub fn kinds_in_order(job: &[u8], n: usize) -> bool
 
 // Do the numbers of a run of records count from 0?
 pub fn numbers_in_order(job: &[u8], start: usize, count: usize) -> bool
-    requires { ⌜ 16 * (start + count) ≤ length (now job) ⌝ }
+    requires { ⌜ HasRun (now job) start count ⌝ }
     ensures { λ r. ⌜ r ≡ every count (numberInOrder (now (job .entry)) start) ⌝ }
 {
     for k in 0..count {
@@ -74,7 +74,7 @@ fn zero_from(job: &[u8], p: usize, n: usize) -> bool
 
 // Are n bytes from `at` on zero in each record of a run?
 pub fn bytes_zero(job: &[u8], start: usize, count: usize, at: usize, n: usize) -> bool
-    requires { ⌜ (16 * (start + count) ≤ length (now job)) × (at + n ≤ 16) ⌝ }
+    requires { ⌜ HasRun (now job) start count × (at + n ≤ 16) ⌝ }
     ensures { λ r. ⌜ r ≡ every count (zeroBytes (now (job .entry)) start at n) ⌝ }
 {
     for k in 0..count {
@@ -95,7 +95,7 @@ pub fn bytes_within(
     least: usize,
     most: usize,
 ) -> bool
-    requires { ⌜ (16 * (start + count) ≤ length (now job)) × (at < 16) ⌝ }
+    requires { ⌜ HasRun (now job) start count × (at < 16) ⌝ }
     ensures { λ r. ⌜ r ≡ every count (byteWithin (now (job .entry)) start at least most) ⌝ }
 {
     for k in 0..count {
@@ -117,7 +117,7 @@ pub fn words_within(
     least: usize,
     most: usize,
 ) -> bool
-    requires { ⌜ (16 * (start + count) ≤ length (now job)) × (at ≤ 12) ⌝ }
+    requires { ⌜ HasRun (now job) start count × (at ≤ 12) ⌝ }
     ensures { λ r. ⌜ r ≡ every count (wordWithin (now (job .entry)) start at least most) ⌝ }
 {
     for k in 0..count {
@@ -132,7 +132,7 @@ pub fn words_within(
 
 // Is the word at `at` in each record of the run from `low` on below that in the run from `high` on?
 pub fn words_below(job: &[u8], low: usize, high: usize, count: usize, at: usize) -> bool
-    requires { ⌜ (16 * (low + count) ≤ length (now job)) × (16 * (high + count) ≤ length (now job)) × (at ≤ 12) ⌝ }
+    requires { ⌜ HasRun (now job) low count × HasRun (now job) high count × (at ≤ 12) ⌝ }
     ensures { λ r. ⌜ r ≡ every count (wordBelow (now (job .entry)) low high at) ⌝ }
 {
     for k in 0..count {
@@ -148,7 +148,7 @@ pub fn words_below(job: &[u8], low: usize, high: usize, count: usize, at: usize)
 
 // Is the byte at `at` at most the next one, and that one below n, in each record of a run?
 pub fn ranges_within(job: &[u8], start: usize, count: usize, at: usize, n: usize) -> bool
-    requires { ⌜ (16 * (start + count) ≤ length (now job)) × (at < 15) ⌝ }
+    requires { ⌜ HasRun (now job) start count × (at < 15) ⌝ }
     ensures { λ r. ⌜ r ≡ every count (rangeWithin (now (job .entry)) start at n) ⌝ }
 {
     for k in 0..count {
@@ -164,7 +164,7 @@ pub fn ranges_within(job: &[u8], start: usize, count: usize, at: usize, n: usize
 
 // Is each segment's parent byte at most its own number?
 pub fn parents_in_order(job: &[u8], start: usize, count: usize) -> bool
-    requires { ⌜ 16 * (start + count) ≤ length (now job) ⌝ }
+    requires { ⌜ HasRun (now job) start count ⌝ }
     ensures { λ r. ⌜ r ≡ every count (parentInOrder (now (job .entry)) start) ⌝ }
 {
     for k in 0..count {
@@ -179,7 +179,7 @@ pub fn parents_in_order(job: &[u8], start: usize, count: usize) -> bool
 
 // Has each segment a sink, or neither sink capacitance nor weight?
 pub fn sinks_or_none(job: &[u8], start: usize, count: usize) -> bool
-    requires { ⌜ 16 * (start + count) ≤ length (now job) ⌝ }
+    requires { ⌜ HasRun (now job) start count ⌝ }
     ensures { λ r. ⌜ r ≡ every count (sinkOrNone (now (job .entry)) start) ⌝ }
 {
     for k in 0..count {
@@ -196,7 +196,7 @@ pub fn sinks_or_none(job: &[u8], start: usize, count: usize) -> bool
 
 // Has each segment a sink, or branches? Where it has none, the first segment at its far end is the one past the last.
 pub fn sinks_or_branches(job: &[u8], first: &[usize], start: usize, count: usize) -> bool
-    requires { ⌜ (16 * (start + count) ≤ length (now job)) × (count < length (now first)) ⌝ }
+    requires { ⌜ HasRun (now job) start count × (count < length (now first)) ⌝ }
     ensures { λ r. ⌜ r ≡ every count (sinkOrBranch (now (job .entry)) (now (first .entry)) start count) ⌝ }
 {
     for k in 0..count {

@@ -1,21 +1,22 @@
 -- What the search asks of its tables and its state, and what it leaves: cited by the contracts of this crate.
 use mathlib.Core.Path.{_≡_}
-use mathlib.Core.Bool.{false, cond}
+use mathlib.Core.Bool.{true, false, cond}
 use mathlib.Core.List.{List}
-use Prim.Native.Nat.{ℕ, suc, _+_, _*_, _≤_, _<_}
+use Prim.Native.Nat.{ℕ, suc, _+_, _*_, _-_, _^_, _≤_, _<_}
 use lib.Dec.{ltb}
 use lib.ListN.{length}
 use Rattle.lattice.specs.Lists.{at}
 use Rattle.lattice.specs.Space.{Allowed}
 use Rattle.lattice.specs.Search.{Found, takes, cover}
 use Rattle.net.specs.declared.Counts.{Counts}
+use Rattle.net.specs.Job.{placesBy}
 use Rattle.net.specs.Net.{Net, places, netBy}
 use Rattle.net.specs.Delay.{delay}
 use Rattle.net.specs.Sizings.{allowed}
 use Rattle.net.specs.Places.{placeWeight, delayAt, loadAt, placeDelay, placeLoad}
 use Rattle.net.specs.Checked.{Checked}
 use Rattle.place.specs.Partial.{WeightsFrom}
-use Rattle.place.specs.Held.{BeforeTo, sumAfter, free, GatheredFrom, DrivenFrom, UpstreamTo}
+use Rattle.place.specs.Held.{before, BeforeTo, sumAfter, free, GatheredFrom, DrivenFrom, UpstreamTo}
 
 -- `skips` has, for up to n places, how many of them there are up to the last that is free.
 pub record SkipsTo (lower upper : List ℕ) (n : ℕ) (skips : List ℕ) : Type 0 where
@@ -92,3 +93,58 @@ pub record PassedTo (net : Net) (w u p l added least low top k : ℕ) : Type 0 w
   pub from : low ≤ k
   pub within : k ≤ suc top
   pub above : (j : ℕ) → low ≤ j → j < k → least < added + stepDelay net w u p l j
+
+-- The place before `left` is free, and is the last one that is, or is not.
+module _ (lower upper skips : List ℕ) (left : ℕ) where
+  abbrev pub LastFree : Type 0
+  LastFree = (0 < left) × (free lower upper (left - 1) ≡ true) × (at skips (left - 1) ≡ 0)
+
+  abbrev pub MoreFree : Type 0
+  MoreFree = (0 < left) × (free lower upper (left - 1) ≡ true) × (0 < at skips (left - 1))
+
+-- Both bounds have an index for each place; `skips` is filled.
+module _ (c : Counts) (lower upper : List ℕ) where
+  abbrev pub BothLong : Type 0
+  BothLong = (placesBy c ≤ length lower) × (placesBy c ≤ length upper)
+
+  abbrev pub Skipped : List ℕ → Type 0
+  Skipped skips = SkipsTo lower upper (placesBy c) skips
+
+-- What the contracts say of the net of a job, by the counts of its records and its bytes.
+module _ (c : Counts) (b : List ℕ) where
+  -- Every index of place p from `low` to `top` gives a delay below 2 ^ 63.
+  abbrev pub AllFit : (w u p l added low top : ℕ) → Type 0
+  AllFit w u p l added low top = (k : ℕ) → low ≤ k → k ≤ top → added + stepDelay (netBy c b) w u p l k < 2 ^ 63
+
+  -- Those before k are passed over.
+  abbrev pub PassedBy : (w u p l added least low top k : ℕ) → Type 0
+  PassedBy w u p l added least low top k = PassedTo (netBy c b) w u p l added least low top k
+
+  -- The same at the place before `left`, by the tables.
+  abbrev pub PassedAt : (weights upstream driven lower upper : List ℕ) (left added : ℕ) (gathered : List ℕ) (least k : ℕ) → Type 0
+  PassedAt weights upstream driven lower upper left added gathered least k =
+      PassedBy (at weights (left - 1)) (at upstream (left - 1)) (left - 1) (at driven (left - 1) + at gathered (left - 1 + 1)) added least
+      (at lower (left - 1)) (at upper (left - 1)) k
+
+  abbrev pub SizedBy : (upstream driven ups lower upper : List ℕ) (left added : ℕ) (x gathered lean wide : List ℕ) → Type 0
+  SizedBy upstream driven ups lower upper left added x gathered lean wide =
+      Sized (netBy c b) lower upper upstream driven ups left added x gathered lean wide
+
+  module _ (lower upper : List ℕ) where
+    -- The node at which a load at `node` arrives, and that of each place.
+    abbrev pub arrivesAt : List ℕ → ℕ → ℕ
+    arrivesAt ups node = before (arrives (netBy c b) lower upper ups) node
+
+    abbrev pub Lifted : List ℕ → Type 0
+    Lifted ups = UpsTo (netBy c b) lower upper (placesBy c) ups
+
+    -- What all held places add to the delay.
+    abbrev pub fixedDelay : List ℕ → ℕ
+    fixedDelay driven = fixedFrom (netBy c b) lower upper driven 0
+
+    abbrev pub SearchedFrom : (left : ℕ) (x gathered : List ℕ) (before : Found) (x′ gathered′ : List ℕ) (after : Found) → Type 0
+    SearchedFrom left x gathered before x′ gathered′ after = Searched (netBy c b) lower upper left x gathered before x′ gathered′ after
+
+    -- What is kept when every sizing between the bounds was taken.
+    abbrev pub takenBetween : Found → Found
+    takenBetween before = takes (delay (netBy c b)) (cover lower upper (placesBy c) lower) before

@@ -5,20 +5,13 @@ use quantity::Capacitance;
 use quantity::Delay;
 use quantity::Resistance;
 ghost use mathlib.Core.Path.{_≡_};
-ghost use Prim.Native.Nat.{ℕ, _+_, _-_, _^_, _<_, _≤_};
-ghost use mathlib.Core.Bool.{true};
+ghost use Prim.Native.Nat.{_<_, _≤_};
 ghost use lib.ListN.{length};
-ghost use Rattle.lattice.specs.Lists.{at};
-ghost use Rattle.lattice.specs.Space.{Allowed};
-ghost use Rattle.lattice.specs.Search.{takes, cover};
 ghost use Rattle.envelope.specs.Kept.{found};
-ghost use Rattle.net.specs.Net.{netBy};
-ghost use Rattle.net.specs.Delay.{delay};
-ghost use Rattle.net.specs.Sizings.{allowed};
-ghost use Rattle.net.specs.Checked.{Checked};
-ghost use Rattle.place.specs.Partial.{WeightsFrom};
-ghost use Rattle.place.specs.Held.{hangsAt, before, free, DrivenFrom};
-ghost use Rattle.search.specs.Searching.{arrives, UpsTo, SkipsTo, fixedFrom, Bounds, Prepared, Sized, Searched, stepDelay, PassedTo};
+ghost use Rattle.net.specs.Job.{placesBy};
+ghost use Rattle.net.specs.Checked.{Checked, AllowedBy, ForPlaces};
+ghost use Rattle.place.specs.ByCounts.{Weighed, CanStep, Driven};
+ghost use Rattle.search.specs.Searching.{Bounds, Prepared, LastFree, MoreFree, BothLong, Skipped, AllFit, PassedBy, PassedAt, SizedBy, arrivesAt, Lifted, fixedDelay, SearchedFrom, takenBetween};
 
 // The node at which a load at `node` arrives, through the held segments above it.
 fn arrival(
@@ -30,9 +23,9 @@ fn arrival(
     node: usize,
 ) -> usize
     requires { ⌜ Checked counts (now job) ⌝ }
-    requires { ⌜ (counts .stages + counts .segments ≤ length (now lower)) × (counts .stages + counts .segments ≤ length (now upper)) ⌝ }
-    requires { ⌜ node ≤ counts .stages + counts .segments ⌝ }
-    ensures { λ r. ⌜ r ≡ before (arrives (netBy counts (now (job .entry))) (now (lower .entry)) (now (upper .entry)) (now (ups .entry))) node ⌝ }
+    requires { ⌜ BothLong counts (now lower) (now upper) ⌝ }
+    requires { ⌜ node ≤ placesBy counts ⌝ }
+    ensures { λ r. ⌜ r ≡ arrivesAt counts (now (job .entry)) (now (lower .entry)) (now (upper .entry)) (now (ups .entry)) node ⌝ }
 {
     if node <= counts.stages {
         return node;
@@ -47,9 +40,9 @@ fn arrival(
 // The nodes at which the loads of the places arrive.
 fn lift(job: &[u8], counts: Counts, lower: &[u8], upper: &[u8], ups: &mut [usize; 68])
     requires { ⌜ Checked counts (now job) ⌝ }
-    requires { ⌜ (counts .stages + counts .segments ≤ length (now lower)) × (counts .stages + counts .segments ≤ length (now upper)) ⌝ }
-    requires { ⌜ counts .stages + counts .segments ≤ length (now ups) ⌝ }
-    ensures { λ r. ⌜ UpsTo (netBy counts (now (job .entry))) (now (lower .entry)) (now (upper .entry)) (counts .stages + counts .segments) (now (ups .exit)) ⌝ }
+    requires { ⌜ BothLong counts (now lower) (now upper) ⌝ }
+    requires { ⌜ placesBy counts ≤ length (now ups) ⌝ }
+    ensures { λ r. ⌜ Lifted counts (now (job .entry)) (now (lower .entry)) (now (upper .entry)) (now (ups .exit)) ⌝ }
 {
     let places = counts.stages + counts.segments;
     let mut p = 0;
@@ -63,9 +56,9 @@ fn lift(job: &[u8], counts: Counts, lower: &[u8], upper: &[u8], ups: &mut [usize
 // Of how many places the last one is free, up to each place.
 fn skip(job: &[u8], counts: Counts, lower: &[u8], upper: &[u8], skips: &mut [usize; 69])
     requires { ⌜ Checked counts (now job) ⌝ }
-    requires { ⌜ (counts .stages + counts .segments ≤ length (now lower)) × (counts .stages + counts .segments ≤ length (now upper)) ⌝ }
-    requires { ⌜ counts .stages + counts .segments < length (now skips) ⌝ }
-    ensures { λ r. ⌜ SkipsTo (now (lower .entry)) (now (upper .entry)) (counts .stages + counts .segments) (now (skips .exit)) ⌝ }
+    requires { ⌜ BothLong counts (now lower) (now upper) ⌝ }
+    requires { ⌜ placesBy counts < length (now skips) ⌝ }
+    ensures { λ r. ⌜ Skipped counts (now (lower .entry)) (now (upper .entry)) (now (skips .exit)) ⌝ }
 {
     let places = counts.stages + counts.segments;
     skips[0] = 0;
@@ -91,11 +84,11 @@ fn fixed_delay(
     upper: &[u8],
 ) -> Delay
     requires { ⌜ Checked counts (now job) ⌝ }
-    requires { ⌜ WeightsFrom (netBy counts (now job)) 0 (now weights) ⌝ }
-    requires { ⌜ DrivenFrom (netBy counts (now job)) (now lower) (now upper) 0 (now driven) ⌝ }
-    requires { ⌜ Allowed (allowed (netBy counts (now job))) (now lower) ⌝ }
-    requires { ⌜ counts .stages + counts .segments ≤ length (now upper) ⌝ }
-    ensures { λ r. ⌜ r .0 ≡ fixedFrom (netBy counts (now (job .entry))) (now (lower .entry)) (now (upper .entry)) (now (driven .entry)) 0 ⌝ }
+    requires { ⌜ Weighed counts (now job) (now weights) ⌝ }
+    requires { ⌜ Driven counts (now job) (now lower) (now upper) (now driven) ⌝ }
+    requires { ⌜ AllowedBy counts (now job) (now lower) ⌝ }
+    requires { ⌜ placesBy counts ≤ length (now upper) ⌝ }
+    ensures { λ r. ⌜ r .0 ≡ fixedDelay counts (now (job .entry)) (now (lower .entry)) (now (upper .entry)) (now (driven .entry)) ⌝ }
 {
     let mut sum = Delay(0);
     let mut p = counts.stages + counts.segments;
@@ -125,10 +118,10 @@ fn pass_over(
     top: u8,
 ) -> u8
     requires { ⌜ Checked counts (now job) ⌝ }
-    requires { ⌜ (p < counts .stages + counts .segments) × (top ≤ netBy counts (now job) .highest p) × (weight ≤ 32640) × (before .0 ≤ 443904000000) × (load .0 ≤ 12900000) ⌝ }
+    requires { ⌜ CanStep counts (now job) weight (before .0) p top (load .0) ⌝ }
     requires { ⌜ (low ≤ top) × (top < 16) ⌝ }
-    requires { ⌜ ((k : ℕ) → low ≤ k → k ≤ top → added .0 + stepDelay (netBy counts (now job)) weight (before .0) p (load .0) k < 2 ^ 63) ⌝ }
-    ensures { λ r. ⌜ PassedTo (netBy counts (now (job .entry))) weight (before .0) p (load .0) (added .0) (least .0) low top r ⌝ }
+    requires { ⌜ AllFit counts (now job) weight (before .0) p (load .0) (added .0) low top ⌝ }
+    ensures { λ r. ⌜ PassedBy counts (now (job .entry)) weight (before .0) p (load .0) (added .0) (least .0) low top r ⌝ }
 {
     let mut k = low;
     while k <= top {
@@ -164,10 +157,14 @@ fn take_from(
     wide: &mut [u8],
 ) -> Delay
     requires { ⌜ Prepared counts (now job) (now weights) (now upstream) (now driven) (now ups) (now skips) (now lower) (now upper) ⌝ }
-    requires { ⌜ Sized (netBy counts (now job)) (now lower) (now upper) (now upstream) (now driven) (now ups) left (added .0) (now x) (now gathered) (now lean) (now wide) ⌝ }
-    requires { ⌜ (0 < left) × (free (now lower) (now upper) (left - 1) ≡ true) × (at (now skips) (left - 1) ≡ 0) ⌝ }
-    requires { ⌜ PassedTo (netBy counts (now job)) (at (now weights) (left - 1)) (at (now upstream) (left - 1)) (left - 1) (at (now driven) (left - 1) + at (now gathered) (left - 1 + 1)) (added .0) (least .0) (at (now lower) (left - 1)) (at (now upper) (left - 1)) start ⌝ }
-    ensures { λ r. ⌜ Searched (netBy counts (now (job .entry))) (now (lower .entry)) (now (upper .entry)) left (now (x .entry)) (now (gathered .entry)) (found (least .0) (now (lean .entry)) (now (wide .entry))) (now (x .exit)) (now (gathered .entry)) (found (r .0) (now (lean .exit)) (now (wide .exit))) ⌝ }
+    requires { ⌜ SizedBy counts (now job) (now upstream) (now driven) (now ups) (now lower) (now upper)
+        left (added .0) (now x) (now gathered) (now lean) (now wide) ⌝ }
+    requires { ⌜ LastFree (now lower) (now upper) (now skips) left ⌝ }
+    requires { ⌜ PassedAt counts (now job) (now weights) (now upstream) (now driven) (now lower) (now upper)
+        left (added .0) (now gathered) (least .0) start ⌝ }
+    ensures { λ r. ⌜ SearchedFrom counts (now (job .entry)) (now (lower .entry)) (now (upper .entry)) left
+        (now (x .entry)) (now (gathered .entry)) (found (least .0) (now (lean .entry)) (now (wide .entry)))
+        (now (x .exit)) (now (gathered .entry)) (found (r .0) (now (lean .exit)) (now (wide .exit))) ⌝ }
 {
     let p = left - 1;
     let weight = weights[p];
@@ -210,9 +207,12 @@ fn search(
     wide: &mut [u8],
 ) -> Delay
     requires { ⌜ Prepared counts (now job) (now weights) (now upstream) (now driven) (now ups) (now skips) (now lower) (now upper) ⌝ }
-    requires { ⌜ Sized (netBy counts (now job)) (now lower) (now upper) (now upstream) (now driven) (now ups) left (added .0) (now x) (now gathered) (now lean) (now wide) ⌝ }
-    requires { ⌜ (0 < left) × (free (now lower) (now upper) (left - 1) ≡ true) × (0 < at (now skips) (left - 1)) ⌝ }
-    ensures { λ r. ⌜ Searched (netBy counts (now (job .entry))) (now (lower .entry)) (now (upper .entry)) left (now (x .entry)) (now (gathered .entry)) (found (least .0) (now (lean .entry)) (now (wide .entry))) (now (x .exit)) (now (gathered .exit)) (found (r .0) (now (lean .exit)) (now (wide .exit))) ⌝ }
+    requires { ⌜ SizedBy counts (now job) (now upstream) (now driven) (now ups) (now lower) (now upper)
+        left (added .0) (now x) (now gathered) (now lean) (now wide) ⌝ }
+    requires { ⌜ MoreFree (now lower) (now upper) (now skips) left ⌝ }
+    ensures { λ r. ⌜ SearchedFrom counts (now (job .entry)) (now (lower .entry)) (now (upper .entry)) left
+        (now (x .entry)) (now (gathered .entry)) (found (least .0) (now (lean .entry)) (now (wide .entry)))
+        (now (x .exit)) (now (gathered .exit)) (found (r .0) (now (lean .exit)) (now (wide .exit))) ⌝ }
 {
     let p = left - 1;
     let rest = skips[p];
@@ -313,8 +313,10 @@ fn start(
 ) -> Delay
     requires { ⌜ Prepared counts (now job) (now weights) (now upstream) (now driven) (now ups) (now skips) (now lower) (now upper) ⌝ }
     requires { ⌜ now x ≡ now lower ⌝ }
-    requires { ⌜ (length (now lean) ≡ counts .stages + counts .segments) × (length (now wide) ≡ counts .stages + counts .segments) ⌝ }
-    ensures { λ r. ⌜ found (r .0) (now (lean .exit)) (now (wide .exit)) ≡ takes (delay (netBy counts (now (job .entry)))) (cover (now (lower .entry)) (now (upper .entry)) (counts .stages + counts .segments) (now (lower .entry))) (found (least .0) (now (lean .entry)) (now (wide .entry))) ⌝ }
+    requires { ⌜ ForPlaces counts (now lean) × ForPlaces counts (now wide) ⌝ }
+    ensures { λ r. ⌜ found (r .0) (now (lean .exit)) (now (wide .exit))
+        ≡ takenBetween counts (now (job .entry)) (now (lower .entry)) (now (upper .entry))
+        (found (least .0) (now (lean .entry)) (now (wide .entry))) ⌝ }
 {
     let fixed = fixed_delay(job, counts, weights, driven, lower, upper);
     let left = skips[counts.stages + counts.segments];
@@ -378,8 +380,10 @@ pub fn between(
 ) -> Delay
     requires { ⌜ Bounds counts (now job) (now weights) (now lower) (now upper) ⌝ }
     requires { ⌜ now x ≡ now lower ⌝ }
-    requires { ⌜ (length (now lean) ≡ counts .stages + counts .segments) × (length (now wide) ≡ counts .stages + counts .segments) ⌝ }
-    ensures { λ r. ⌜ found (r .0) (now (lean .exit)) (now (wide .exit)) ≡ takes (delay (netBy counts (now (job .entry)))) (cover (now (lower .entry)) (now (upper .entry)) (counts .stages + counts .segments) (now (lower .entry))) (found (least .0) (now (lean .entry)) (now (wide .entry))) ⌝ }
+    requires { ⌜ ForPlaces counts (now lean) × ForPlaces counts (now wide) ⌝ }
+    ensures { λ r. ⌜ found (r .0) (now (lean .exit)) (now (wide .exit))
+        ≡ takenBetween counts (now (job .entry)) (now (lower .entry)) (now (upper .entry))
+        (found (least .0) (now (lean .entry)) (now (wide .entry))) ⌝ }
 {
     // loads, by place
     let mut driven = [0u64; 68];

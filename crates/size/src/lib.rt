@@ -2,15 +2,16 @@
 use lattice::Side;
 use net::Counts;
 ghost use mathlib.Core.Path.{_≡_};
-ghost use Prim.Native.Nat.{suc, _+_, _*_, _≤_};
+ghost use Prim.Native.Nat.{suc, _*_, _≤_};
 ghost use lib.ListN.{length};
+ghost use Rattle.net.specs.Job.{placesBy};
 ghost use Rattle.net.specs.Net.{netBy};
-ghost use Rattle.net.specs.Checked.{Checked};
+ghost use Rattle.net.specs.Checked.{Checked, ForPlaces};
 ghost use Rattle.net.specs.Answers.{sizeNumber, sizeBuffer};
 ghost use Rattle.net.specs.Promises.{Promises};
-ghost use Rattle.links.specs.Links.{Linked};
-ghost use Rattle.place.specs.Partial.{WeightsFrom};
-ghost use Rattle.finish.specs.Parts.{Bounded, bufferFrom};
+ghost use Rattle.links.specs.Links.{LinkedBy};
+ghost use Rattle.place.specs.ByCounts.{Weighed};
+ghost use Rattle.finish.specs.Parts.{BoundedBy, bufferBy};
 ghost use Rattle.size.specs.Numbers.{numberFrom};
 
 // Questions 13 and 14, and the reply.
@@ -23,11 +24,11 @@ fn answer(
     reply: &mut [u8],
 ) -> usize
     requires { ⌜ Checked counts (now job) ⌝ }
-    requires { ⌜ WeightsFrom (netBy counts (now job)) 0 (now weights) ⌝ }
-    requires { ⌜ Bounded (netBy counts (now job)) (now lower) (now upper) ⌝ }
-    requires { ⌜ 8 * suc (counts .stages + counts .segments) ≤ length (now reply) ⌝ }
+    requires { ⌜ Weighed counts (now job) (now weights) ⌝ }
+    requires { ⌜ BoundedBy counts (now job) (now lower) (now upper) ⌝ }
+    requires { ⌜ 8 * suc (placesBy counts) ≤ length (now reply) ⌝ }
     ensures number { λ r. ⌜ r ≡ numberFrom (netBy counts (now (job .entry))) ⌝ }
-    ensures buffer { λ r. ⌜ now (reply .exit) ≡ bufferFrom (netBy counts (now (job .entry))) r (now (reply .entry)) ⌝ }
+    ensures buffer { λ r. ⌜ now (reply .exit) ≡ bufferBy counts (now (job .entry)) r (now (reply .entry)) ⌝ }
 {
     let places = counts.stages + counts.segments;
     if !bounds::in_order(lower, upper, places) {
@@ -52,11 +53,11 @@ fn bound_and_answer(
     reply: &mut [u8],
 ) -> usize
     requires { ⌜ Checked counts (now job) ⌝ }
-    requires { ⌜ Linked (netBy counts (now job)) (now first) (now next) ⌝ }
-    requires { ⌜ (length (now lower) ≡ counts .stages + counts .segments) × (length (now upper) ≡ counts .stages + counts .segments) ⌝ }
-    requires { ⌜ 8 * suc (counts .stages + counts .segments) ≤ length (now reply) ⌝ }
+    requires { ⌜ LinkedBy counts (now job) (now first) (now next) ⌝ }
+    requires { ⌜ ForPlaces counts (now lower) × ForPlaces counts (now upper) ⌝ }
+    requires { ⌜ 8 * suc (placesBy counts) ≤ length (now reply) ⌝ }
     ensures number { λ r. ⌜ r ≡ numberFrom (netBy counts (now (job .entry))) ⌝ }
-    ensures buffer { λ r. ⌜ now (reply .exit) ≡ bufferFrom (netBy counts (now (job .entry))) r (now (reply .entry)) ⌝ }
+    ensures buffer { λ r. ⌜ now (reply .exit) ≡ bufferBy counts (now (job .entry)) r (now (reply .entry)) ⌝ }
 {
     let mut weights = [0u64; 68];
     weights::weigh(job, counts, first, next, &mut weights);

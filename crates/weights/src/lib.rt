@@ -1,13 +1,13 @@
 // The weights of the places: of a segment that of the sinks at or below its far end, of a stage twice that of all sinks.
 use net::Counts;
 ghost use mathlib.Core.Path.{_≡_};
-ghost use Prim.Native.Nat.{_+_, _^_, _<_, _≤_};
+ghost use Prim.Native.Nat.{_^_, _<_, _≤_};
 ghost use lib.ListN.{length};
-ghost use Rattle.net.specs.Net.{netBy};
+ghost use Rattle.net.specs.Job.{placesBy};
 ghost use Rattle.net.specs.Checked.{Checked};
-ghost use Rattle.links.specs.Links.{Linked};
-ghost use Rattle.place.specs.Partial.{WeightsFrom};
-ghost use Rattle.weights.specs.Sums.{linkedSum};
+ghost use Rattle.links.specs.Links.{LinkedBy};
+ghost use Rattle.place.specs.ByCounts.{WeighedFrom, Weighed};
+ghost use Rattle.weights.specs.Sums.{sumFrom};
 
 // The sum of what `values` has at the places of segment j and of its siblings after it.
 fn linked_sum(
@@ -18,10 +18,10 @@ fn linked_sum(
     values: &[u64],
     j: usize,
 ) -> u64
-    requires { ⌜ Linked (netBy counts (now job)) (now first) (now next) ⌝ }
-    requires { ⌜ counts .stages + counts .segments ≤ length (now values) ⌝ }
-    requires { ⌜ linkedSum (netBy counts (now job)) (now next) (now values) (counts .segments) j < 2 ^ 63 ⌝ }
-    ensures { λ r. ⌜ r ≡ linkedSum (netBy counts (now (job .entry))) (now (next .entry)) (now (values .entry)) (counts .segments) j ⌝ }
+    requires { ⌜ LinkedBy counts (now job) (now first) (now next) ⌝ }
+    requires { ⌜ placesBy counts ≤ length (now values) ⌝ }
+    requires { ⌜ sumFrom counts (now job) (now next) (now values) j < 2 ^ 63 ⌝ }
+    ensures { λ r. ⌜ r ≡ sumFrom counts (now (job .entry)) (now (next .entry)) (now (values .entry)) j ⌝ }
 {
     let mut sum = 0;
     let mut i = j;
@@ -41,9 +41,9 @@ fn weigh_segments(
     weights: &mut [u64; 68],
 )
     requires { ⌜ Checked counts (now job) ⌝ }
-    requires { ⌜ Linked (netBy counts (now job)) (now first) (now next) ⌝ }
-    requires { ⌜ counts .stages + counts .segments ≤ length (now weights) ⌝ }
-    ensures { λ r. ⌜ WeightsFrom (netBy counts (now (job .entry))) (counts .stages) (now (weights .exit)) ⌝ }
+    requires { ⌜ LinkedBy counts (now job) (now first) (now next) ⌝ }
+    requires { ⌜ placesBy counts ≤ length (now weights) ⌝ }
+    ensures { λ r. ⌜ WeighedFrom counts (now (job .entry)) (counts .stages) (now (weights .exit)) ⌝ }
 {
     let mut i = counts.segments;
     while i > 0 {
@@ -63,9 +63,9 @@ fn weigh_stages(
     weights: &mut [u64; 68],
 )
     requires { ⌜ Checked counts (now job) ⌝ }
-    requires { ⌜ Linked (netBy counts (now job)) (now first) (now next) ⌝ }
-    requires { ⌜ WeightsFrom (netBy counts (now job)) (counts .stages) (now weights) ⌝ }
-    ensures { λ r. ⌜ WeightsFrom (netBy counts (now (job .entry))) 0 (now (weights .exit)) ⌝ }
+    requires { ⌜ LinkedBy counts (now job) (now first) (now next) ⌝ }
+    requires { ⌜ WeighedFrom counts (now job) (counts .stages) (now weights) ⌝ }
+    ensures { λ r. ⌜ Weighed counts (now (job .entry)) (now (weights .exit)) ⌝ }
 {
     let root = first[0];
     let all = 2 * linked_sum(job, counts, first, next, weights, root);
@@ -79,9 +79,9 @@ fn weigh_stages(
 // The weights of all places.
 pub fn weigh(job: &[u8], counts: Counts, first: &[usize], next: &[usize], weights: &mut [u64; 68])
     requires { ⌜ Checked counts (now job) ⌝ }
-    requires { ⌜ Linked (netBy counts (now job)) (now first) (now next) ⌝ }
-    requires { ⌜ counts .stages + counts .segments ≤ length (now weights) ⌝ }
-    ensures { λ r. ⌜ WeightsFrom (netBy counts (now (job .entry))) 0 (now (weights .exit)) ⌝ }
+    requires { ⌜ LinkedBy counts (now job) (now first) (now next) ⌝ }
+    requires { ⌜ placesBy counts ≤ length (now weights) ⌝ }
+    ensures { λ r. ⌜ Weighed counts (now (job .entry)) (now (weights .exit)) ⌝ }
 {
     weigh_segments(job, counts, first, next, weights);
     weigh_stages(job, counts, first, next, weights);
