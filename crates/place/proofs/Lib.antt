@@ -6,4 +6,5 @@ pub mod OnePlace
 pub mod Upstream
 pub mod After
 pub mod Gathering
+pub mod Loads
 pub mod Driving

@@ -65,20 +65,17 @@ pub fn drive(job: &[u8], counts: Counts, lower: &[u8], upper: &[u8], driven: &mu
     requires { ⌜ placesBy counts ≤ length (now driven) ⌝ }
     ensures { λ r. ⌜ Driven counts (now (job .entry)) (now (lower .entry)) (now (upper .entry)) (now (driven .exit)) ⌝ }
 {
-    // loads, by node
-    let mut gathered = [0u64; 69];
+    // by node
+    let mut gathered = [Capacitance(0); 69];
     let mut p = counts.stages + counts.segments;
     while p > 0 {
         p -= 1;
-        let behind = Capacitance(gathered[p + 1]);
-        let load = quantity::add_capacitance(sink_at(job, counts, p), behind);
+        let load = quantity::add_capacitance(sink_at(job, counts, p), gathered[p + 1]);
         driven[p] = load.0;
         if lower[p] >= upper[p] {
             let shown = shown_load(job, counts, p, lower[p], load);
             let node = hangs_at(job, counts, p);
-            let others = Capacitance(gathered[node]);
-            let all = quantity::add_capacitance(others, shown);
-            gathered[node] = all.0;
+            gathered[node] = quantity::add_capacitance(gathered[node], shown);
         }
     }
 }

@@ -1,5 +1,5 @@
-// Resistance, capacitance and scaled delay, kept apart: one struct each. Only the functions here add or multiply them. A table of one of them
-// holds the numbers, and what is read from it becomes its struct at once.
+// Resistance, capacitance and scaled delay, kept apart: one struct each. Only the functions here add or multiply them. A table that is lent
+// holds the numbers of one of them, and a number read from it becomes its struct at once.
 ghost use mathlib.Core.Path.{_≡_};
 ghost use Prim.Native.Nat.{_+_, _*_, _^_, _<_};
 ghost use lib.Dec.{ltb};
