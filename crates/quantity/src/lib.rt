@@ -91,7 +91,7 @@ pub fn add_delay(a: Delay, b: Delay) -> Delay
     Delay(a.0 + b.0)
 }
 
-// Is the delay d below the least one so far and a margin? With a margin of 1 a tie is, too.
+// Is the delay d below the least so far plus a margin? With the margin 1 it also is where it ties.
 pub fn beats(d: Delay, least: Delay, margin: u64) -> bool
     requires { ⌜ least .0 + margin < 2 ^ 64 ⌝ }
     ensures { λ r. ⌜ r ≡ ltb (d .0) (least .0 + margin) ⌝ }
