@@ -19,8 +19,10 @@ pub extern "C" fn numlejka_measure(
     load: &mut u64,
 ) -> usize
     ensures number { λ r. ⌜ r ≡ measured (now (job .entry)) (now (sizing .entry)) .number ⌝ }
-    ensures delay { λ r. ⌜ now (delay .exit) ≡ answered r (measured (now (job .entry)) (now (sizing .entry)) .delay) (now (delay .entry)) ⌝ }
-    ensures load { λ r. ⌜ now (load .exit) ≡ answered r (measured (now (job .entry)) (now (sizing .entry)) .load) (now (load .entry)) ⌝ }
+    ensures delay { λ r. ⌜ now (delay .exit)
+        ≡ answered r (measured (now (job .entry)) (now (sizing .entry)) .delay) (now (delay .entry)) ⌝ }
+    ensures load { λ r. ⌜ now (load .exit)
+        ≡ answered r (measured (now (job .entry)) (now (sizing .entry)) .load) (now (load .entry)) ⌝ }
 {
     match operations::measure(job, sizing) {
         Measurement::Figures(figures) => {
@@ -49,7 +51,8 @@ pub extern "C" fn numlejka_refine(
     index: &mut u8,
 ) -> usize
     ensures number { λ r. ⌜ r ≡ refined (now (job .entry)) (now (sizing .entry)) place (sideBy above) .number ⌝ }
-    ensures index { λ r. ⌜ now (index .exit) ≡ answered r (refined (now (job .entry)) (now (sizing .entry)) place (sideBy above) .index) (now (index .entry)) ⌝ }
+    ensures index { λ r. ⌜ now (index .exit)
+        ≡ answered r (refined (now (job .entry)) (now (sizing .entry)) place (sideBy above) .index) (now (index .entry)) ⌝ }
 {
     match operations::refine(job, sizing, place, side_of(above)) {
         Refinement::Index(best) => {
