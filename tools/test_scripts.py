@@ -7,6 +7,7 @@ import pty
 import subprocess
 import sys
 import tempfile
+import time
 import unittest
 
 TOP = pathlib.Path(__file__).resolve().parent.parent
@@ -122,6 +123,17 @@ class Progress(unittest.TestCase):
         self.assertEqual(result.stdout, b"")
         self.assertEqual(result.stderr, b"proved lattice (2 s), 1 of 3\n")
         self.assertIn("some words\n", self.log.read_text())
+
+    def test_end_from_outside(self):
+        mark = pathlib.Path(self.folder.name) / "mark"
+        words = [sys.executable, TOP / "tools/progress", self.log, "sh", "-c", f"echo started; sleep 1; touch '{mark}'"]
+        process = subprocess.Popen(words, cwd=TOP, stderr=subprocess.DEVNULL)
+        while not self.log.exists() or "started" not in self.log.read_text():
+            time.sleep(0.05)
+        process.terminate()
+        self.assertEqual(process.wait(), 143)
+        time.sleep(1.5)
+        self.assertFalse(mark.exists())
 
     def test_line_that_moves(self):
         ours, theirs = pty.openpty()
