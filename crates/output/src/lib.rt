@@ -1,5 +1,6 @@
 // What the programs write, put into lent buffers: the text of the sizing program, and the reply as bytes with the line beside it.
 use net::Counts;
+use text::widened;
 ghost use mathlib.Core.Path.{_≡_};
 ghost use mathlib.Core.List.{_++_};
 ghost use Prim.Native.Nat.{suc, _+_, _*_, _≤_, _<_, _^_};
@@ -14,13 +15,6 @@ ghost use Rattle.output.specs.Lines.{boundsText, kindLinesIn, placeLines
 pub struct Lengths {
     pub reply: usize,
     pub line: usize,
-}
-
-// A byte as a number of eight bytes.
-fn widened(b: u8) -> u64
-    ensures { λ r. ⌜ (r ≡ b) × (r < 256) ⌝ }
-{
-    b as u64
 }
 
 // Puts lean or wide at a place and a word behind it: the index where it is known, `-` otherwise.

@@ -1,23 +1,17 @@
 -- The records of the places written one after the other: what the loop has left to write, and that all together are the reply.
 use mathlib.Core.Path.{_≡_, refl, sym, ap, _∙_}
-use mathlib.Core.List.{List, [], _∷_, _++_, flatMap}
+use mathlib.Core.List.{List, _++_, flatMap}
 use Prim.Native.Nat.{ℕ, zero, suc, _+_, _*_, _-_, _≤_, _<_}
-use native.Mathlib.Nat.{add-zero, sub-zero}
+use native.Mathlib.Nat.{sub-zero}
 use native.Mathlib.Numerals.{add-one}
 use native.Mathlib.Omega.{arith}
-use lib.ListN.{length, set, drop, replicate, length-append, getD-replicate}
+use lib.ListN.{length, drop, replicate, length-append, getD-replicate}
 use lib.Seq.{sets, length-sets, sets-eq}
+use Rattle.text.proofs.Writing.{sets-append}
 use Rattle.lattice.specs.Lists.{at, from}
 use Rattle.net.specs.Answers.{littleEndian, replyRecords}
 use Rattle.reply.specs.Records.{placeBytes, placesBytes}
 use Rattle.reply.proofs.Numbers.{number-long}
-
--- one list written behind another
-sets-append : (xs ys b : List ℕ) (i : ℕ) → sets b i (xs ++ ys) ≡ sets (sets b i xs) (i + length xs) ys
-sets-append [] ys b i = rw (add-zero i)
-sets-append (a ∷ xs) ys b i =
-    let e : i + length (a ∷ xs) ≡ suc i + length xs = omega arith in
-    rw e (sets-append xs ys (set b i a) (suc i))
 
 -- what is left to write of n places' records
 pub record Placing (b₀ : List ℕ) (n : ℕ) (lower upper lean wide : ℕ → ℕ) (b : List ℕ) (p : ℕ) : Type 0 where

@@ -1,18 +1,12 @@
 // Writes the reply of `size` into the caller's buffer: eight bytes for the delay and for each place.
 use quantity::Delay;
+use text::widened;
 ghost use mathlib.Core.Path.{_≡_};
 ghost use Prim.Native.Nat.{_+_, _*_, _≤_, _<_, suc};
 ghost use lib.ListN.{length};
 ghost use lib.Seq.{sets};
 ghost use Rattle.net.specs.Answers.{littleEndian};
 ghost use Rattle.reply.specs.Records.{placeBytes, recordsOf, replied, boundsReplied};
-
-// A byte as a number of eight bytes.
-fn widened(b: u8) -> u64
-    ensures { λ r. ⌜ (r ≡ b) × (r < 256) ⌝ }
-{
-    b as u64
-}
 
 // The record of a place as a number: lower, upper, lean and wide are its four lowest bytes.
 fn place_record(lower: u8, upper: u8, lean: u8, wide: u8) -> u64

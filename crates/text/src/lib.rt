@@ -7,6 +7,13 @@ ghost use lib.ListN.{length};
 ghost use Rattle.text.specs.Spelling.{spelling};
 ghost use Rattle.text.specs.Writing.{Wrote};
 
+// A byte as a number of eight bytes.
+pub fn widened(b: u8) -> u64
+    ensures { λ r. ⌜ (r ≡ b) × (r < 256) ⌝ }
+{
+    b as u64
+}
+
 // Puts a byte.
 pub fn put_byte(out: &mut [u8], at: usize, byte: u8) -> usize
     requires { ⌜ at + 1 < 2 ^ 64 ⌝ }
