@@ -16,11 +16,13 @@
  *      4    Do the numbers count from 0 in each kind?                                                 all
  *      5    Are all unnamed bytes zero, and the capacitance and weight of each segment without sink?  all
  *      6    Are the values of widths and sizes in range?                                              all
- *      7    Does resistance strictly fall, and capacitance strictly rise, along each table?           all
+ *      7    In each of the two tables, does resistance strictly fall, and do width capacitance and
+ *           gate capacitance strictly rise?                                                           all
  *      8    Is every stage's lowest at most its highest, which is below the count of sizes, and
  *           are both equal for stage 0?                                                               all
  *      9    Is each parent byte at most the segment's own number?                                     all
- *     10    Are the segments' fields in range?                                                        all
+ *     10    Are the segments' fields in range, capacitance and weight 0 where there is no sink, and
+ *           lowest at most highest, which is below the count of widths?                               all
  *     11    Has every segment without branches a sink?                                                all
  *     12    Does the reply buffer hold 8 * (1 + P) bytes?                                             size
  *     13    Is the lower bound at most the upper at each place? (It always is.)                       size

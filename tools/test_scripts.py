@@ -4,6 +4,8 @@
 import os
 import pathlib
 import pty
+import shutil
+import signal
 import subprocess
 import sys
 import tempfile
@@ -52,6 +54,9 @@ class Words(unittest.TestCase):
     def test_two_files(self):
         self.wrong("one file at a time, and not 2", EXAMPLES / "j1.job", EXAMPLES / "j2.job")
 
+    def test_empty_word(self):
+        self.wrong("there is no file", "")
+
     def test_unknown_option(self):
         self.wrong("no option --fast", "--fast", EXAMPLES / "j1.job")
 
@@ -70,7 +75,7 @@ class Jobs(unittest.TestCase):
     def test_text_with_a_fault(self):
         result = run("-", input=b"width resistance 4\n")
         self.assertEqual((result.returncode, result.stdout), (1, b""))
-        self.assertIn(b"width lacks its capacitance", result.stderr)
+        self.assertEqual(result.stderr, b"standard input:1: width lacks its capacitance\n")
 
     def test_standard_input(self):
         result = run("-", input=(EXAMPLES / "j4.job").read_bytes())
@@ -93,6 +98,14 @@ class Jobs(unittest.TestCase):
         result = run("--reply", EXAMPLES / "j4.job")
         self.assertEqual((result.returncode, len(result.stdout), result.stderr), (0, 32, b""))
         self.assertEqual(int.from_bytes(result.stdout[:8], "little"), 260)
+
+    def test_no_rt(self):
+        with tempfile.TemporaryDirectory() as folder:
+            for name in ("bash", "cat", "dirname", "mktemp", "realpath", "rm", "tr", "wc"):
+                os.symlink(shutil.which(name), pathlib.Path(folder) / name)
+            result = run(EXAMPLES / "j4.job", env={"PATH": folder})
+        self.assertEqual((result.returncode, result.stdout), (1, b""))
+        self.assertEqual(result.stderr, b"run: the command rt of the Rattle kit is not found\n")
 
     def test_reply_of_bounds(self):
         result = run("--reply", "-", input=too_large().encode())
@@ -127,13 +140,20 @@ class Progress(unittest.TestCase):
     def test_end_from_outside(self):
         mark = pathlib.Path(self.folder.name) / "mark"
         words = [sys.executable, TOP / "tools/progress", self.log, "sh", "-c", f"echo started; sleep 1; touch '{mark}'"]
-        process = subprocess.Popen(words, cwd=TOP, stderr=subprocess.DEVNULL)
-        while not self.log.exists() or "started" not in self.log.read_text():
-            time.sleep(0.05)
-        process.terminate()
-        self.assertEqual(process.wait(), 143)
-        time.sleep(1.5)
-        self.assertFalse(mark.exists())
+        for number in (signal.SIGTERM, signal.SIGINT, signal.SIGHUP):
+            self.log.unlink(missing_ok=True)
+            process = subprocess.Popen(words, cwd=TOP, stderr=subprocess.PIPE)
+            while not self.log.exists() or "started" not in self.log.read_text():
+                time.sleep(0.05)
+            process.send_signal(number)
+            self.assertEqual((process.communicate()[1], process.returncode), (b"", 128 + number))
+            time.sleep(1.5)
+            self.assertFalse(mark.exists())
+
+    def test_no_such_command(self):
+        result = subprocess.run([*self.words[:3], "no-such-command"], cwd=TOP, capture_output=True)
+        self.assertEqual((result.returncode, result.stdout), (127, b""))
+        self.assertEqual(result.stderr, b"progress: no-such-command: No such file or directory\n")
 
     def test_line_that_moves(self):
         ours, theirs = pty.openpty()

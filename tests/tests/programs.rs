@@ -170,7 +170,7 @@ fn a_folder_as_input_is_told() {
 }
 
 #[test]
-fn an_input_that_fails_after_two_records_is_not_taken_for_its_end() {
+fn an_input_that_fails_between_two_records_is_not_taken_for_its_end() {
     for name in PROGRAMS {
         let (mut ours, mut theirs) = UnixStream::pair().expect("two ends");
         // An end that is closed with bytes unread resets the other, which can still read what came before.
@@ -205,24 +205,28 @@ fn a_writer_that_dies_ends_the_input() {
 
 #[test]
 fn a_full_device_is_told() {
-    for name in PROGRAMS {
+    let told = |name: &str, job: &[u8]| {
         let mut child = program(name)
             .stdin(Stdio::piped())
             .stdout(File::create("/dev/full").expect("the device opens"))
             .stderr(Stdio::piped())
             .spawn()
             .expect("the program starts");
-        child
-            .stdin
-            .take()
-            .expect("piped")
-            .write_all(&worked::j4().bytes())
-            .expect("written");
-        let mut line = String::new();
-        child.stderr.take().expect("piped").read_to_string(&mut line).expect("text");
+        child.stdin.take().expect("piped").write_all(job).expect("written");
+        let mut told = String::new();
+        child.stderr.take().expect("piped").read_to_string(&mut told).expect("text");
         assert!(child.wait().expect("the program ends").success());
-        assert_eq!(line, "standard output: No space left on device\n");
+        told
+    };
+    let full = "standard output: No space left on device\n";
+    for name in PROGRAMS {
+        assert_eq!(told(name, &worked::j4().bytes()), full);
     }
+    // The reply of bounds is lost, and 14 is told all the same.
+    assert_eq!(
+        told("sizer_reply", &worked::weightless(9).bytes()),
+        format!("{full}refused 14\n")
+    );
 }
 
 #[test]

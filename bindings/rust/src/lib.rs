@@ -81,7 +81,7 @@ const QUESTIONS: [&str; 17] = [
     "Do the numbers count from 0 in each kind?",
     "Are all unnamed bytes zero, and the sink capacitance and weight of every segment whose sink byte is 0?",
     "Are the values of kinds 1 and 2 in range?",
-    "Does resistance strictly fall, and does width capacitance, or gate capacitance, strictly rise, along each table?",
+    "In each of the two tables, does resistance strictly fall, and do width capacitance and gate capacitance strictly rise?",
     "Is every stage's lowest at most its highest, which is below the count of sizes, and are both equal for stage 0?",
     "Is each parent byte at most the segment's own number?",
     "Are the segments' fields in range, capacitance and weight 0 where there is no sink, and lowest at most highest, which is below the count of widths?",

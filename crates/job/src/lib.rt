@@ -2,6 +2,7 @@
 use net::Counts;
 use quantity::Capacitance;
 use quantity::Resistance;
+use text::widened;
 ghost use mathlib.Core.Path.{_≡_};
 ghost use Prim.Native.Nat.{_+_, _^_, _<_, _≤_};
 ghost use lib.ListN.{length};
@@ -17,12 +18,6 @@ pub struct Wire {
     pub capacitance: Capacitance,
 }
 
-fn number(x: u8) -> u64
-    ensures { λ r. ⌜ (r ≡ x) × (r < 256) ⌝ }
-{
-    x as u64
-}
-
 // A byte, as an index.
 pub fn index(x: u8) -> usize
     ensures { λ r. ⌜ (r ≡ x) × (r < 256) ⌝ }
@@ -35,10 +30,10 @@ pub fn word_at(b: &[u8], at: usize) -> u64
     requires { ⌜ at + 4 ≤ length (now b) ⌝ }
     ensures { λ r. ⌜ (r ≡ word (now (b .entry)) at) × (r < 2 ^ 32) ⌝ }
 {
-    number(b[at])
-        + 256 * number(b[at + 1])
-        + 65536 * number(b[at + 2])
-        + 16777216 * number(b[at + 3])
+    widened(b[at])
+        + 256 * widened(b[at + 1])
+        + 65536 * widened(b[at + 2])
+        + 16777216 * widened(b[at + 3])
 }
 
 // The byte at a position, as an index.
@@ -94,7 +89,7 @@ pub fn weight(job: &[u8], counts: Counts, i: usize) -> u64
     requires { ⌜ i < counts .segments ⌝ }
     ensures { λ r. ⌜ r ≡ netBy counts (now (job .entry)) .weight i ⌝ }
 {
-    number(job[16 * (counts.widths + counts.sizes + (counts.stages + i)) + 12])
+    widened(job[16 * (counts.widths + counts.sizes + (counts.stages + i)) + 12])
 }
 
 // The capacitance of segment i's sink.

@@ -1,4 +1,4 @@
--- At the limits of document 01 every sum that the delay is made of stays small, and the delay stays below 2 ^ 63. Assumes nothing.
+-- At the limits of the specification every sum that the delay is made of stays small, and the delay stays below 2 ^ 63. Assumes nothing.
 use mathlib.Core.Path.{_≡_, refl}
 use mathlib.Core.Bool.{Bool, true, false, cond}
 use mathlib.Core.List.{List}

@@ -1,5 +1,6 @@
 -- The Elmore delay of a sized net: the section 'Delay' of the specification, sink by sink along the path from the source.
--- Every delay is twice the published one, so that half of a segment's own capacitance is a whole number.
+-- What a segment adds and the delay of a sink are twice the published ones, so that half of a segment's own capacitance is a whole number; what
+-- a stage adds is doubled with the delay of a sink.
 use mathlib.Core.Bool.{cond}
 use mathlib.Core.List.{List}
 use Prim.Native.Nat.{ℕ, zero, suc, _+_, _*_, _-_}

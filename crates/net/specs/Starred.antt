@@ -69,6 +69,10 @@ is g f = record { given = g; figure = f }
 abbrev measure : List ℕ → List ℕ → List ℕ
 measure job x = measured job x .number ∷ measured job x .delay ∷ []
 
+-- The number and the load figure that measure answers.
+abbrev load : List ℕ → List ℕ → List ℕ
+load job x = measured job x .number ∷ measured job x .load ∷ []
+
 -- The number and the best index that refine answers from below, then from above.
 abbrev refine : List ℕ → List ℕ → ℕ → List ℕ
 refine job x p = refined job x p below .number ∷ refined job x p below .index ∷ refined job x p above .number ∷ refined job x p above .index ∷ []
@@ -92,6 +96,7 @@ starredTable =
     ∷ is (measure J4 (0 ∷ 0 ∷ 1 ∷ [])) (0 ∷ 262 ∷ [])
     ∷ is (measure J4 (0 ∷ 1 ∷ 0 ∷ [])) (0 ∷ 270 ∷ [])
     ∷ is (measure J4 (0 ∷ 1 ∷ 1 ∷ [])) (0 ∷ 262 ∷ [])
+    ∷ is (load J4 (0 ∷ 0 ∷ 0 ∷ [])) (0 ∷ 9 ∷ [])
     ∷ is (refine J4 (0 ∷ 0 ∷ 1 ∷ []) 1) (0 ∷ 0 ∷ 0 ∷ 1 ∷ [])
     ∷ is (measure J5 (0 ∷ 0 ∷ 0 ∷ 0 ∷ [])) (0 ∷ 155 ∷ [])
     ∷ is (refusal [] ∷ []) (1 ∷ [])

@@ -1,4 +1,4 @@
--- What the programs write, for every input: the end of the section 'Jobs to check against' of the specification.
+-- What the programs write, for every input: the section 'Programs' of the specification.
 use mathlib.Core.Path.{_≡_}
 use mathlib.Core.Bool.{Bool, true, false, cond}
 use mathlib.Core.List.{List, [], _++_, flatMap}

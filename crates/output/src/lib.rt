@@ -1,5 +1,6 @@
 // What the programs write, put into lent buffers: the text of the sizing program, and the reply as bytes with the line beside it.
 use net::Counts;
+use quantity::Delay;
 use text::widened;
 ghost use mathlib.Core.Path.{_≡_};
 ghost use mathlib.Core.List.{_++_};
@@ -117,10 +118,11 @@ fn put_places(out: &mut [u8], at: usize, reply: &[u8; 552], known: bool, counts:
 }
 
 // The delay in the first record of a reply, the lowest byte first.
-fn delay(reply: &[u8; 552]) -> u64
-    ensures { λ r. ⌜ r ≡ replyDelay (now (reply .entry)) ⌝ }
+fn delay(reply: &[u8; 552]) -> Delay
+    ensures { λ r. ⌜ r .0 ≡ replyDelay (now (reply .entry)) ⌝ }
 {
-    job::word_at(reply, 0) + 4294967296 * job::word_at(reply, 4)
+    let number = job::word_at(reply, 0) + 4294967296 * job::word_at(reply, 4);
+    Delay(number)
 }
 
 // Puts the lines of an answer, by the bytes of a finished reply.
@@ -130,7 +132,8 @@ fn put_answer(out: &mut [u8], reply: &[u8; 552], counts: Counts) -> usize
     ensures { λ r. ⌜ r ≤ 7720 ⌝ }
 {
     let start = text::put_bytes(out, 0, b"answer 0\ndelay ");
-    let next = text::put_number_then(out, start, delay(reply), b"\n");
+    let least = delay(reply);
+    let next = text::put_number_then(out, start, least.0, b"\n");
     put_places(out, next, reply, true, counts)
 }
 

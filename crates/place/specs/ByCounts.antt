@@ -27,22 +27,22 @@ module _ (c : Counts) (b : List ℕ) where
   SinkAt p l = (l ≡ sinkAt (netBy c b) p) × (l ≤ 100000)
 
   -- Place p may have the index k, and the load l that it drives is in the limits.
-  abbrev pub CanDrive : ℕ → ℕ → ℕ → Type 0
-  CanDrive p k l = (p < placesBy c) × (k ≤ netBy c b .highest p) × (l ≤ 12900000)
+  abbrev pub DriveInLimits : ℕ → ℕ → ℕ → Type 0
+  DriveInLimits p k l = (p < placesBy c) × (k ≤ netBy c b .highest p) × (l ≤ 12900000)
 
   -- Place p may have the index k, and has the weight w.
-  abbrev pub CanSlope : ℕ → ℕ → ℕ → Type 0
-  CanSlope w p k = (p < placesBy c) × (k ≤ netBy c b .highest p) × (w ≡ placeWeight (netBy c b) p)
+  abbrev pub IndexAndWeight : ℕ → ℕ → ℕ → Type 0
+  IndexAndWeight w p k = (p < placesBy c) × (k ≤ netBy c b .highest p) × (w ≡ placeWeight (netBy c b) p)
 
   -- r is what the delay of place p, at the index k, grows by with each unit of the load that it drives.
   abbrev pub SlopeAt : ℕ → ℕ → ℕ → Type 0
   SlopeAt p k r = (r ≡ slope (netBy c b) p k) × (r ≤ 6528000000)
 
   -- Place p may have the index k, and its weight w, the resistance u upstream and the load l that it drives are in the limits.
-  abbrev pub CanStep : (w u p k l : ℕ) → Type 0
-  CanStep w u p k l = (p < placesBy c) × (k ≤ netBy c b .highest p) × (w ≤ 32640) × (u ≤ 443904000000) × (l ≤ 12900000)
+  abbrev pub StepInLimits : (w u p k l : ℕ) → Type 0
+  StepInLimits w u p k l = (p < placesBy c) × (k ≤ netBy c b .highest p) × (w ≤ 32640) × (u ≤ 443904000000) × (l ≤ 12900000)
 
-  -- r is that step.
+  -- r is the step of place p to the index k, with that weight, resistance and load.
   abbrev pub Stepped : (w u p k l : ℕ) → PlaceStep → Type 0
   Stepped w u p k l r = StepOf (netBy c b) w u p k l r
 
@@ -64,15 +64,15 @@ module _ (c : Counts) (b : List ℕ) where
 
 -- The same limits for a step of stage s to the size k, and of segment i to the width k.
 module _ (c : Counts) where
-  abbrev pub CanStage : (w u s k l : ℕ) → Type 0
-  CanStage w u s k l = (s < c .stages) × (k < c .sizes) × (w ≤ 32640) × (u ≤ 443904000000) × (l ≤ 12900000)
+  abbrev pub StageInLimits : (w u s k l : ℕ) → Type 0
+  StageInLimits w u s k l = (s < c .stages) × (k < c .sizes) × (w ≤ 32640) × (u ≤ 443904000000) × (l ≤ 12900000)
 
-  abbrev pub CanSegment : (w u i k l : ℕ) → Type 0
-  CanSegment w u i k l = (i < c .segments) × (k < c .widths) × (w ≤ 32640) × (u ≤ 443904000000) × (l ≤ 12900000)
+  abbrev pub SegmentInLimits : (w u i k l : ℕ) → Type 0
+  SegmentInLimits w u i k l = (i < c .segments) × (k < c .widths) × (w ≤ 32640) × (u ≤ 443904000000) × (l ≤ 12900000)
 
 -- A resistance u upstream, a weighted delay d and a load l in the limits.
-abbrev pub CanCharge : (u d l : ℕ) → Type 0
-CanCharge u d l = (u ≤ 443904000000) × (d ≤ 84864000000000000) × (l ≤ 13000000)
+abbrev pub ChargeInLimits : (u d l : ℕ) → Type 0
+ChargeInLimits u d l = (u ≤ 443904000000) × (d ≤ 84864000000000000) × (l ≤ 13000000)
 
 -- r has that load, and the delay with what the load costs upstream.
 abbrev pub Charged : (u d l : ℕ) → PlaceStep → Type 0

@@ -11,7 +11,7 @@ ghost use Rattle.net.specs.Job.{placesBy};
 ghost use Rattle.net.specs.Net.{netBy};
 ghost use Rattle.net.specs.Places.{loadAt};
 ghost use Rattle.net.specs.Checked.{Checked, AllowedBy};
-ghost use Rattle.place.specs.ByCounts.{Weighed, HangsAt, SinkAt, CanDrive, CanSlope, SlopeAt, CanStep, Stepped, Driven, onwardFrom, upstreamOf, Upstream, CanStage, CanSegment, CanCharge, Charged};
+ghost use Rattle.place.specs.ByCounts.{Weighed, HangsAt, SinkAt, DriveInLimits, IndexAndWeight, SlopeAt, StepInLimits, Stepped, Driven, onwardFrom, upstreamOf, Upstream, StageInLimits, SegmentInLimits, ChargeInLimits, Charged};
 
 // What a place adds at one of its indices: its part of the scaled delay with what its load costs upstream, and the load that it shows.
 pub struct PlaceStep {
@@ -46,7 +46,7 @@ fn sink_at(job: &[u8], counts: Counts, p: usize) -> Capacitance
 // The load that place p shows at the index k, where it drives the load `driven`.
 fn shown_load(job: &[u8], counts: Counts, p: usize, k: u8, driven: Capacitance) -> Capacitance
     requires { ⌜ Checked counts (now job) ⌝ }
-    requires { ⌜ CanDrive counts (now job) p k (driven .0) ⌝ }
+    requires { ⌜ DriveInLimits counts (now job) p k (driven .0) ⌝ }
     ensures { λ r. ⌜ r .0 ≡ loadAt (netBy counts (now (job .entry))) p k (driven .0) ⌝ }
 {
     let index = job::index(k);
@@ -83,7 +83,7 @@ pub fn drive(job: &[u8], counts: Counts, lower: &[u8], upper: &[u8], driven: &mu
 // What the delay of place p, of the weight `weight` and at the index k, grows by with each unit of the load that it drives.
 fn slope(job: &[u8], counts: Counts, weight: u64, p: usize, k: u8) -> Resistance
     requires { ⌜ Checked counts (now job) ⌝ }
-    requires { ⌜ CanSlope counts (now job) weight p k ⌝ }
+    requires { ⌜ IndexAndWeight counts (now job) weight p k ⌝ }
     ensures { λ r. ⌜ SlopeAt counts (now (job .entry)) p k (r .0) ⌝ }
 {
     let index = job::index(k);
@@ -175,7 +175,7 @@ pub fn go_upstream(
 
 // A step of the weighted delay `own` and the load `load`, which is charged through the resistance upstream too.
 fn charged_upstream(upstream: Resistance, own: Delay, load: Capacitance) -> PlaceStep
-    requires { ⌜ CanCharge (upstream .0) (own .0) (load .0) ⌝ }
+    requires { ⌜ ChargeInLimits (upstream .0) (own .0) (load .0) ⌝ }
     ensures { λ r. ⌜ Charged (upstream .0) (own .0) (load .0) r ⌝ }
 {
     PlaceStep {
@@ -195,7 +195,7 @@ fn stage_step(
     driven: Capacitance,
 ) -> PlaceStep
     requires { ⌜ Checked counts (now job) ⌝ }
-    requires { ⌜ CanStage counts weight (upstream .0) s k (driven .0) ⌝ }
+    requires { ⌜ StageInLimits counts weight (upstream .0) s k (driven .0) ⌝ }
     ensures { λ r. ⌜ Stepped counts (now (job .entry)) weight (upstream .0) s k (driven .0) r ⌝ }
 {
     let resistance = job::driver_resistance(job, counts, k);
@@ -215,7 +215,7 @@ fn segment_step(
     driven: Capacitance,
 ) -> PlaceStep
     requires { ⌜ Checked counts (now job) ⌝ }
-    requires { ⌜ CanSegment counts weight (upstream .0) i k (driven .0) ⌝ }
+    requires { ⌜ SegmentInLimits counts weight (upstream .0) i k (driven .0) ⌝ }
     ensures { λ r. ⌜ Stepped counts (now (job .entry)) weight (upstream .0) (counts .stages + i) k (driven .0) r ⌝ }
 {
     let wire = job::wire_at(job, counts, i, k);
@@ -237,7 +237,7 @@ pub fn step(
     driven: Capacitance,
 ) -> PlaceStep
     requires { ⌜ Checked counts (now job) ⌝ }
-    requires { ⌜ CanStep counts (now job) weight (upstream .0) p k (driven .0) ⌝ }
+    requires { ⌜ StepInLimits counts (now job) weight (upstream .0) p k (driven .0) ⌝ }
     ensures { λ r. ⌜ Stepped counts (now (job .entry)) weight (upstream .0) p k (driven .0) r ⌝ }
 {
     let index = job::index(k);

@@ -10,7 +10,7 @@ ghost use lib.ListN.{length};
 ghost use Rattle.envelope.specs.Kept.{found};
 ghost use Rattle.net.specs.Job.{placesBy};
 ghost use Rattle.net.specs.Checked.{Checked, AllowedBy, ForPlaces};
-ghost use Rattle.place.specs.ByCounts.{Weighed, CanStep, Driven};
+ghost use Rattle.place.specs.ByCounts.{Weighed, StepInLimits, Driven};
 ghost use Rattle.search.specs.Searching.{Bounds, Prepared, LastFree, MoreFree, BothLong, Skipped, AllFit, PassedBy, PassedAt, SizedBy, arrivesAt, Lifted, fixedDelay, SearchedFrom, takenBetween};
 
 // The node at which a load at `node` arrives, through the held segments above it.
@@ -118,7 +118,7 @@ fn pass_over(
     top: u8,
 ) -> u8
     requires { ⌜ Checked counts (now job) ⌝ }
-    requires { ⌜ CanStep counts (now job) weight (before .0) p top (load .0) ⌝ }
+    requires { ⌜ StepInLimits counts (now job) weight (before .0) p top (load .0) ⌝ }
     requires { ⌜ (low ≤ top) × (top < 16) ⌝ }
     requires { ⌜ AllFit counts (now job) weight (before .0) p (load .0) (added .0) low top ⌝ }
     ensures { λ r. ⌜ PassedBy counts (now (job .entry)) weight (before .0) p (load .0) (added .0) (least .0) low top r ⌝ }

@@ -10,14 +10,14 @@ word-at-requires c κs = search needs
 word-at-requires-2 : tie.Need-word-at-requires-2
 word-at-requires-2 c κs = search needs
 
-mul-result : tie.Need-mul-result
-mul-result c = search needs
+mul-number : tie.Need-mul-number
+mul-number c = search needs
 
-add-result : tie.Need-add-result
-add-result c = search needs
+add-number : tie.Need-add-number
+add-number c = search needs
 
 returns : tie.Need-returns
 returns c = rw (c .before .before .word-at .ensures .0, c .word-at2 .ensures .0) (delay-words (c .before .before .before .before .args .reply .now) (search needs))
 
 pub delay-spec : {M : Type 1} → statement M
-delay-spec = tie.close (tie.spec word-at-requires word-at-requires-2 mul-result add-result returns)
+delay-spec = tie.close (tie.spec word-at-requires word-at-requires-2 mul-number add-number returns)

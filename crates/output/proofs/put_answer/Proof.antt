@@ -33,7 +33,7 @@ returns c =
     let n = c .before .before .before .before .before .before .put-number-then .ensures in
     let p = c .before .before .put-places .ensures in
     let a = c .before .before .before .before .before .before .before .before .before .before .before .before .before .before .before .before .args in
-    (rw (← answer-parts (a .reply .now) (a .counts), ← c .before .before .before .before .before .before .before .before .delay .ensures) (wrote-then b (wrote-then (n .0) (p .0))), omega (arith, b .position, n .1, p .1))
+    (rw (← answer-parts (a .reply .now) (a .counts), ← c .before .before .before .before .before .before .before .before .before .delay .ensures) (wrote-then b (wrote-then (n .0) (p .0))), omega (arith, b .position, n .1, p .1))
 
 pub put-answer-spec : {M : Type 1} → statement M
 put-answer-spec =
