@@ -6,7 +6,7 @@ use Rattle.lattice.specs.Lists.{at}
 use Rattle.text.specs.Spelling.{ascii, spelling}
 use Rattle.net.specs.declared.Counts.{Counts}
 use Rattle.net.specs.Promises.{replyDelay}
-use Rattle.output.specs.Printed.{Figures, kindLines, placeLines}
+use Rattle.output.specs.Printed.{Figures, kindLines, placeLines, answerWith}
 
 -- The start of a place's line: its kind, number and bounds.
 abbrev pub boundsText : List ℕ → (number lower upper : ℕ) → List ℕ
@@ -30,4 +30,4 @@ placeLinesIn reply known c = placeLines known (figuresIn reply) (c .stages) (c .
 
 -- The lines of an answer by the bytes of a reply.
 abbrev pub answerTextIn : List ℕ → Counts → List ℕ
-answerTextIn reply c = ascii "answer 0\ndelay " ++ spelling (replyDelay reply) ++ ascii "\n" ++ placeLinesIn reply true c
+answerTextIn reply c = answerWith (replyDelay reply) (placeLinesIn reply true c)

@@ -53,8 +53,11 @@ unfoldable pub refusedLine : ℕ → List ℕ
 refusedLine number = ascii "refused " ++ spelling number ++ ascii "\n"
 
 -- The lines of an answer: the number 0, the least scaled delay, and a line for each place.
+abbrev pub answerWith : ℕ → List ℕ → List ℕ
+answerWith least lines = ascii "answer 0\ndelay " ++ spelling least ++ ascii "\n" ++ lines
+
 unfoldable pub answerText : Net → List ℕ
-answerText net = ascii "answer 0\ndelay " ++ spelling (leastDelay net) ++ ascii "\n" ++ netLines true net
+answerText net = answerWith (leastDelay net) (netLines true net)
 
 -- The number of a job: that of size with a buffer that holds the reply, so question 12 never fails.
 unfoldable pub jobNumber : List ℕ → ℕ

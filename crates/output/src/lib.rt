@@ -8,6 +8,7 @@ ghost use Prim.Native.Nat.{suc, _+_, _*_, _≤_, _<_, _^_};
 ghost use lib.ListN.{length};
 ghost use Rattle.io.specs.Counts.{Counts as Within};
 ghost use Rattle.text.specs.Writing.{Wrote};
+ghost use Rattle.net.specs.Job.{placesBy};
 ghost use Rattle.net.specs.Promises.{replyDelay};
 ghost use Rattle.output.specs.Printed.{indexText, placeLine, refusedLine, printed, replied, told, Holds};
 ghost use Rattle.output.specs.Lines.{boundsText, kindLinesIn, placeLinesIn, answerTextIn};
@@ -101,7 +102,7 @@ fn put_kind(
 
 // Puts the lines of all places.
 fn put_places(out: &mut [u8], at: usize, reply: &[u8; 552], known: bool, counts: Counts) -> usize
-    requires { ⌜ (at < 2 ^ 30) × (counts .stages + counts .segments ≤ 68) ⌝ }
+    requires { ⌜ (at < 2 ^ 30) × (placesBy counts ≤ 68) ⌝ }
     ensures { λ r. ⌜ Wrote (now (out .entry)) at (placeLinesIn (now (reply .entry)) known counts) (now (out .exit)) r ⌝ }
     ensures { λ r. ⌜ r ≤ at + 7684 ⌝ }
 {
@@ -127,7 +128,7 @@ fn delay(reply: &[u8; 552]) -> Delay
 
 // Puts the lines of an answer, by the bytes of a finished reply.
 fn put_answer(out: &mut [u8], reply: &[u8; 552], counts: Counts) -> usize
-    requires { ⌜ counts .stages + counts .segments ≤ 68 ⌝ }
+    requires { ⌜ placesBy counts ≤ 68 ⌝ }
     ensures { λ r. ⌜ Wrote (now (out .entry)) 0 (answerTextIn (now (reply .entry)) counts) (now (out .exit)) r ⌝ }
     ensures { λ r. ⌜ r ≤ 7720 ⌝ }
 {
@@ -168,8 +169,8 @@ pub fn print(input: &[u8], out: &mut [u8; 8192]) -> usize
 
 // How many bytes the reply of a job has.
 fn reply_length(counts: Counts) -> usize
-    requires { ⌜ counts .stages + counts .segments ≤ 68 ⌝ }
-    ensures { λ r. ⌜ r ≡ 8 * suc (counts .stages + counts .segments) ⌝ }
+    requires { ⌜ placesBy counts ≤ 68 ⌝ }
+    ensures { λ r. ⌜ r ≡ 8 * suc (placesBy counts) ⌝ }
 {
     8 * (1 + (counts.stages + counts.segments))
 }
