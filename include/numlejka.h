@@ -25,11 +25,13 @@
  *           lowest at most highest, which is below the count of widths?                               all
  *     11    Has every segment without branches a sink?                                                all
  *     12    Does the reply buffer hold 8 * (1 + P) bytes?                                             size
- *     13    Is the lower bound at most the upper at each place? (It always is.)                       size
  *     14    Is room at most 65,536?                                                                   size
  *     15    Is each sizing at least P bytes long? Later bytes make no difference to the answer.       measure, refine, choose
  *     16    Is each index in its place's range?                                                       measure, refine, choose
  *     17    Is the place below P?                                                                     refine
+ *
+ * The number 13 is not used, and no function returns it: it was the question whether the lower bound of a place exceeds
+ * the upper, which never happens.
  *
  * Buffers. A buffer is a pointer to its first byte and its length in bytes. The pointer of a buffer of length 0 may be
  * null: nothing is read or written through it. Every other pointer points to as many bytes as its length says, and a

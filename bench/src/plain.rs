@@ -786,9 +786,6 @@ fn size_by(job: &[u8], reply: &mut [u8], way: Way) -> usize {
             net.bound::<true>(&links, upper, Side::Above);
         }
     }
-    if !lower.iter().zip(upper.iter()).all(|(a, b)| a <= b) {
-        return 13;
-    }
     if room(lower, upper).is_none() {
         write_reply(reply, u64::MAX, lower, upper, &[255; PLACES], &[255; PLACES]);
         return 14;

@@ -237,14 +237,14 @@ pub fn exhaustive_least(net: &Net, _bounds: &Bounds) -> Least {
     least_of(net, &sizings_between(&net.lowest(), &net.highest()))
 }
 
-/// Room: how many sizings lie between the bounds.
+/// Room: how many sizings lie between the bounds, which never cross.
 pub fn room(bounds: &Bounds) -> u128 {
     product(
         bounds
             .lower
             .iter()
             .zip(&bounds.upper)
-            .map(|(lower, upper)| u128::from(upper - lower) + 1),
+            .map(|(lower, upper)| u128::from(upper.checked_sub(*lower).expect("bounds that do not cross")) + 1),
     )
 }
 
@@ -337,9 +337,6 @@ pub fn size(job: &[u8], reply: &mut [u8], way: &Way) -> u64 {
         return 12;
     }
     let bounds = (way.bounds)(&net);
-    if bounds.lower.iter().zip(&bounds.upper).any(|(lower, upper)| lower > upper) {
-        return 13;
-    }
     if room(&bounds) > MOST_ROOM {
         let unknown = vec![255; net.places()];
         write_reply(reply, [255; 8], &bounds, &unknown, &unknown);

@@ -40,7 +40,8 @@ pub enum Side {
     Above,
 }
 
-/// The number of the first question whose answer is no.
+/// The number of the first question whose answer is no. The number 13 is not used: the bounds never cross, so the question
+/// that had it is not asked.
 #[derive(Clone, Copy, Debug, PartialEq, Eq)]
 pub struct Refusal {
     pub number: usize,
@@ -73,35 +74,36 @@ pub enum Reply {
     Refused(Refusal),
 }
 
-/// The questions, from 1 on.
-const QUESTIONS: [&str; 17] = [
-    "Is the length above 0 and a multiple of 16?",
-    "Is every kind 1 to 4, and does the kind never fall from one record to the next?",
-    "Are there 1 to 8 widths, 1 to 16 sizes, 1 to 4 stages, 1 to 64 segments?",
-    "Do the numbers count from 0 in each kind?",
-    "Are all unnamed bytes zero, and the sink capacitance and weight of every segment whose sink byte is 0?",
-    "Are the values of kinds 1 and 2 in range?",
-    "In each of the two tables, does resistance strictly fall, and do width capacitance and gate capacitance strictly rise?",
-    "Is every stage's lowest at most its highest, which is below the count of sizes, and are both equal for stage 0?",
-    "Is each parent byte at most the segment's own number?",
-    "Are the segments' fields in range, capacitance and weight 0 where there is no sink, and lowest at most highest, which is below the count of widths?",
-    "Has every segment without branches a sink?",
-    "Does the reply buffer hold 8 * (1 + P) bytes?",
-    "Is the lower bound at most the upper at each place?",
-    "Is room at most 65,536?",
-    "Is each sizing at least P bytes long?",
-    "Is each index in its place's range?",
-    "Is the place below P?",
+/// The questions, each with its number.
+const QUESTIONS: [(usize, &str); 16] = [
+    (1, "Is the length above 0 and a multiple of 16?"),
+    (2, "Is every kind 1 to 4, and does the kind never fall from one record to the next?"),
+    (3, "Are there 1 to 8 widths, 1 to 16 sizes, 1 to 4 stages, 1 to 64 segments?"),
+    (4, "Do the numbers count from 0 in each kind?"),
+    (5, "Are all unnamed bytes zero, and the sink capacitance and weight of every segment whose sink byte is 0?"),
+    (6, "Are the values of kinds 1 and 2 in range?"),
+    (7, "In each of the two tables, does resistance strictly fall, and do width capacitance and gate capacitance strictly rise?"),
+    (8, "Is every stage's lowest at most its highest, which is below the count of sizes, and are both equal for stage 0?"),
+    (9, "Is each parent byte at most the segment's own number?"),
+    (10, "Are the segments' fields in range, capacitance and weight 0 where there is no sink, and lowest at most highest, which is below the count of widths?"),
+    (11, "Has every segment without branches a sink?"),
+    (12, "Does the reply buffer hold 8 * (1 + P) bytes?"),
+    (14, "Is room at most 65,536?"),
+    (15, "Is each sizing at least P bytes long?"),
+    (16, "Is each index in its place's range?"),
+    (17, "Is the place below P?"),
 ];
 
 impl Refusal {
     /// The question whose answer is no.
     pub fn question(self) -> &'static str {
-        self.number
-            .checked_sub(1)
-            .and_then(|i| QUESTIONS.get(i))
-            .copied()
-            .unwrap_or("a question of a later version")
+        QUESTIONS
+            .iter()
+            .find(|(number, _)| *number == self.number)
+            .map_or(
+                "a number that this version does not use",
+                |(_, question)| question,
+            )
     }
 }
 

@@ -217,4 +217,19 @@ fn a_refusal_tells_its_question() {
         refusal.to_string(),
         "refused 1: Is the length above 0 and a multiple of 16?"
     );
+    let question = |number| Refusal { number }.question();
+    assert_eq!(
+        question(12),
+        "Does the reply buffer hold 8 * (1 + P) bytes?"
+    );
+    assert_eq!(question(14), "Is room at most 65,536?");
+    assert_eq!(question(17), "Is the place below P?");
+}
+
+#[test]
+fn number_13_has_no_question() {
+    assert_eq!(
+        Refusal { number: 13 }.to_string(),
+        "refused 13: a number that this version does not use"
+    );
 }

@@ -4,14 +4,13 @@ use net::Counts;
 use quantity::Capacitance;
 ghost use mathlib.Core.Path.{_≡_};
 ghost use Prim.Native.Nat.{suc, _-_, _<_, _≤_};
-ghost use lib.ListN.{length};
 ghost use Rattle.net.specs.Job.{placesBy};
 ghost use Rattle.net.specs.Net.{netBy};
 ghost use Rattle.net.specs.Checked.{Checked, ForPlaces};
 ghost use Rattle.lattice.specs.SideOf.{sideOf};
 ghost use Rattle.place.specs.ByCounts.{Weighed};
 ghost use Rattle.bounds.specs.Sweep.{firstAt, ApproachingFrom, SweptFrom, BoundFrom};
-ghost use Rattle.bounds.specs.Between.{Between, orderly, roomy};
+ghost use Rattle.bounds.specs.Between.{Between, roomy};
 
 // The first index of place p, seen from a side.
 fn first_at(job: &[u8], counts: Counts, p: usize, side: Side) -> u8
@@ -84,21 +83,6 @@ pub fn bound(job: &[u8], counts: Counts, weights: &[u64; 68], x: &mut [u8], side
 {
     start(job, counts, x, side);
     while sweep(job, counts, weights, x, side) {}
-}
-
-// Question 13: is the lower bound at most the upper at each place?
-pub fn in_order(lower: &[u8], upper: &[u8], n: usize) -> bool
-    requires { ⌜ (n ≤ length (now lower)) × (n ≤ length (now upper)) ⌝ }
-    ensures { λ r. ⌜ r ≡ orderly n (now (lower .entry)) (now (upper .entry)) ⌝ }
-{
-    let mut p = 0;
-    while p < n {
-        if !(lower[p] <= upper[p]) {
-            return false;
-        }
-        p += 1;
-    }
-    true
 }
 
 // How many indices there are from a to b, both included.

@@ -9,7 +9,7 @@ use Rattle.lattice.specs.Space.{Allowed, within}
 use Rattle.lattice.specs.Least as least
 use Rattle.lattice.specs.Refine as refining
 use Rattle.lattice.specs.Search.{Found, takes, cover}
-use Rattle.lattice.proofs.Theorems.{lower-fixed, upper-fixed, in-order, enclosed}
+use Rattle.lattice.proofs.Theorems.{lower-fixed, upper-fixed, enclosed}
 use Rattle.lattice.proofs.Searching.{Finds, cover-finds}
 use Rattle.net.specs.declared.Counts.{Counts}
 use Rattle.net.specs.Net.{places, netBy}
@@ -19,6 +19,7 @@ use Rattle.net.specs.Answers.{finishedReply, replyRecords, littleEndian}
 use Rattle.net.specs.Checked.{Checked}
 use Rattle.net.proofs.Dominance.{allowed-lattice}
 use Rattle.net.proofs.Questions.{lowestSizing, allowed-iff, checked-allowed, checked-submodular, checked-fits}
+use Rattle.net.proofs.Demands.{checked-never-cross}
 use Rattle.place.specs.Partial.{WeightsFrom}
 use Rattle.envelope.specs.Kept.{found}
 use Rattle.search.specs.Searching.{Bounds}
@@ -38,16 +39,18 @@ module _ {c : Counts} {job : List ℕ} (k : Checked c job) where
   pub upper-long : {l u : List ℕ} → Bounded (netBy c job) l u → length u ≡ places (netBy c job)
   upper-long b = ap length (b .isUpper) ∙ allowed-iff (netBy c job) (upperBound (netBy c job)) .0 upper-allowed .long
 
+  pub never-cross : {l u : List ℕ} → Bounded (netBy c job) l u → (p : ℕ) → p < places (netBy c job) → at l p ≤ at u p
+  never-cross b = rw (b .isLower, b .isUpper) (checked-never-cross k)
+
   -- the search may start
   pub bounds : {weights lower upper : List ℕ} → WeightsFrom (netBy c job) 0 weights → Bounded (netBy c job) lower upper → Bounds c job weights lower upper
-  unfolding within
   bounds w b =
       record {
         checked = k;
         weighed = w;
         lowerAllowed = rw (b .isLower) lower-allowed;
         upperAllowed = rw (b .isUpper) upper-allowed;
-        inOrder = λ q h. rw (b .isLower, b .isUpper) (omega (arith, in-order (allowed-lattice (netBy c job)) (checked-submodular k) (lowestSizing (netBy c job)) (checked-allowed k) q h));
+        inOrder = never-cross b;
       }
 
   -- and finds what it is for

@@ -9,13 +9,21 @@ use Rattle.lattice.specs.Space.{Allowed, within}
 use Rattle.lattice.specs.Refine.{Fixed}
 use Rattle.lattice.proofs.Leasts.{leastDelay-le, leastDelay-one, lean-least, wide-least, between, only-one}
 use Rattle.lattice.proofs.Refining.{bound-before}
-use Rattle.lattice.proofs.Theorems.{lower-fixed, upper-fixed, in-order}
-use Rattle.net.specs.Net.{places, netOf}
+use Rattle.lattice.proofs.Theorems.{lower-fixed, upper-fixed, in-order, never-cross}
+use Rattle.net.specs.declared.Counts.{Counts}
+use Rattle.net.specs.Net.{places, netBy, netOf}
 use Rattle.net.specs.Delay.{delay}
 use Rattle.net.specs.Sizings.{allowed, leastDelay, LeastDelaySizing, lean, wide, lowerBound, upperBound}
+use Rattle.net.specs.Checked.{Checked}
 use Rattle.net.specs.Questions.{refusal}
 use Rattle.net.proofs.Dominance.{allowed-lattice}
-use Rattle.net.proofs.Questions.{lowestSizing, job-allowed, job-submodular}
+use Rattle.net.proofs.Questions.{lowestSizing, checked, checked-allowed, checked-submodular, job-allowed, job-submodular}
+
+-- `bounds-never-cross`, below, from the facts of questions 1 to 10: what the code has at hand where it needs it.
+module _ {c : Counts} {b : List ℕ} (k : Checked c b) where
+  pub checked-never-cross : (p : ℕ) → p < places (netBy c b) → at (lowerBound (netBy c b)) p ≤ at (upperBound (netBy c b)) p
+  unfolding within
+  checked-never-cross p h = never-cross (allowed-lattice (netBy c b)) (checked-submodular k) (lowestSizing (netBy c b)) (checked-allowed k) p h
 
 module _ (b : List ℕ) (e : refusal b ≡ 0) where
   -- the least delay is reached, and no allowed sizing is below it
@@ -63,3 +71,7 @@ module _ (b : List ℕ) (e : refusal b ≡ 0) where
       × (at (wide (netOf b)) p ≤ at (upperBound (netOf b)) p)
   unfolding within
   bounds-enclose p h = in-order (allowed-lattice (netOf b)) (job-submodular b e) (lowestSizing (netOf b)) (job-allowed b e) p h
+
+  -- The lower bound never exceeds the upper, because every least-delay sizing lies between the two, and there is one.
+  pub bounds-never-cross : (p : ℕ) → p < places (netOf b) → at (lowerBound (netOf b)) p ≤ at (upperBound (netOf b)) p
+  bounds-never-cross = checked-never-cross (checked b e)

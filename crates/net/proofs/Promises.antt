@@ -1,5 +1,5 @@
 -- The promises of size, of the definitions of its number and its buffer; that no byte of a reply depends on what the buffer held; that its length
--- tells P alone; and that the number 13 never comes.
+-- tells P alone; and that the number 13 is not used.
 use mathlib.Core.Path.{_≡_, _∙_, refl, sym, ap}
 use mathlib.Core.Logic.{_⊎_, inl, inr, ⊎-elim}
 use mathlib.Core.Bool.{Bool, true, false, cond}
@@ -9,15 +9,15 @@ use native.Mathlib.Nat.{pow-suc}
 use native.Mathlib.Decide.{ℕ-discrete}
 use native.Mathlib.Omega.{arith}
 use borrow.Author.Tests.{ne-eqb, leb-true}
-use lib.Dec.{T, leb, le→leb, lit≤}
+use lib.Dec.{leb, lit≤}
 use lib.ListN.{length, take, drop, replicate, length-append, length-drop, length-replicate, getD-replicate, List·getD-append}
 use lib.Seq.{take-at, drop-at, take-append-le, getD-append-add}
 use Rattle.lattice.specs.Side.{below, above}
-use Rattle.lattice.specs.Lists.{at, every, from}
+use Rattle.lattice.specs.Lists.{at, from}
 use Rattle.lattice.specs.Space.{within}
 use Rattle.lattice.specs.Least.{leasts, leastEnvelope}
 use Rattle.lattice.specs.Refine.{fixed, bound}
-use Rattle.lattice.proofs.ListLaws.{ext, length-tabulate, at-tabulate, at-every}
+use Rattle.lattice.proofs.ListLaws.{ext, length-tabulate, at-tabulate}
 use Rattle.lattice.proofs.Leasts.{length-envelope}
 use Rattle.net.specs.Net.{Net, places, netOf}
 use Rattle.net.specs.Delay.{delay}
@@ -27,7 +27,7 @@ use Rattle.net.specs.Answers.{replyLength, sizeNumber, littleEndian, rep
 use Rattle.net.specs.Promises.{valueOf, replyDelay, replyBytes, replyLean, replyWide, Bounded, Finished, Unsearched, Promises, Replied, written}
 use Rattle.net.proofs.Questions.{job-fits}
 use Rattle.net.proofs.Answers.{job-passes, job-fails}
-use Rattle.net.proofs.Demands.{least-reached, least-below, lean-is-least, wide-is-least, least-between, equal-when-one, bounds-enclose}
+use Rattle.net.proofs.Demands.{least-reached, least-below, lean-is-least, wide-is-least, least-between, equal-when-one, bounds-never-cross}
 
 -- A number's bytes make the number.
 littleEndian-value : (n v : ℕ) → v < 256 ^ n → valueOf (littleEndian n v) ≡ v
@@ -140,26 +140,13 @@ module _ (net : Net) where
   bounds-long = reply-long net _ refl _ _ _ _
 
   -- both replies hold the bounds
-  module _ (d : List ℕ) (long : length d ≡ 8) (e w : ℕ → ℕ) (behind : List ℕ) where
+  module _ (order : (p : ℕ) → p < places net → at (lowerBound net) p ≤ at (upperBound net) p)
+      (d : List ℕ) (long : length d ≡ 8) (e w : ℕ → ℕ) (behind : List ℕ) where
     reply-bounded : Bounded net (replyRecords (places net) d (at (lowerBound net)) (at (upperBound net)) e w ++ behind)
     reply-bounded =
-        record {
-          lower = reply-bytes net d long _ _ e w behind 0 (lowerBound net) (lit≤ tt) lower-long (λ p h. refl);
-          upper = reply-bytes net d long _ _ e w behind 1 (upperBound net) (lit≤ tt) upper-long (λ p h. refl);
-          zeros = reply-zeros net d long _ _ e w behind;
-        }
-
-  -- the reply with 14
-  pub bounds-unsearched : (behind : List ℕ) → Unsearched net (boundsReply net ++ behind)
-  unfolding boundsReply
-  bounds-unsearched behind =
-      let d : List ℕ = replicate 8 255 in
-      record {
-        delayBytes = reply-delay net d refl _ _ _ _ behind;
-        lean = reply-alike net d refl _ _ _ _ behind 2 255 (lit≤ tt) (λ p. refl);
-        wide = reply-alike net d refl _ _ _ _ behind 3 255 (lit≤ tt) (λ p. refl);
-        bounded = reply-bounded d refl _ _ behind;
-      }
+        let l = reply-bytes net d long _ _ e w behind 0 (lowerBound net) (lit≤ tt) lower-long (λ p h. refl) in
+        let u = reply-bytes net d long _ _ e w behind 1 (upperBound net) (lit≤ tt) upper-long (λ p h. refl) in
+        record { lower = l; upper = u; inOrder = rw (l, u) order; zeros = reply-zeros net d long _ _ e w behind }
 
   -- a finished reply's delay, lean and wide
   pub finished-delay : (behind : List ℕ) → leastDelay net < 256 ^ 8 → replyDelay (finishedReply net ++ behind) ≡ leastDelay net
@@ -175,15 +162,16 @@ module _ (net : Net) where
   unfolding finishedReply
   finished-wide behind = reply-bytes net _ (littleEndian-long 8 (leastDelay net)) _ _ _ _ behind 3 (wide net) (lit≤ tt) wide-long (λ p h. refl)
 
-  pub finished-bounded : (behind : List ℕ) → Bounded net (finishedReply net ++ behind)
-  unfolding finishedReply
-  finished-bounded behind = reply-bounded _ (littleEndian-long 8 (leastDelay net)) _ _ behind
-
--- A job that passes has a finished reply.
+-- What the replies of a job that passes hold.
 module _ (job : List ℕ) (e : refusal job ≡ 0) where
   pub least-fits : leastDelay (netOf job) < 256 ^ 8
   least-fits = let r = least-reached job e in omega (arith, r .2, job-fits job e (r .0) (r .1))
 
+  pub finished-bounded : (behind : List ℕ) → Bounded (netOf job) (finishedReply (netOf job) ++ behind)
+  unfolding finishedReply
+  finished-bounded behind = reply-bounded (netOf job) (bounds-never-cross job e) _ (littleEndian-long 8 (leastDelay (netOf job))) _ _ behind
+
+  -- the finished reply
   reply-finished : (behind : List ℕ) → Finished (netOf job) (finishedReply (netOf job) ++ behind)
   reply-finished behind =
       let v = finished-delay (netOf job) behind least-fits in
@@ -196,19 +184,21 @@ module _ (job : List ℕ) (e : refusal job ≡ 0) where
         wide = rw w (wide-is-least job e);
         between = rw (l, w) (least-between job e);
         one = rw (l, w) (equal-when-one job e);
-        bounded = finished-bounded (netOf job) behind;
+        bounded = finished-bounded behind;
       }
 
-  -- its bounds are in order
-  pub question-13 : every (places (netOf job)) (λ p. leb (at (lowerBound (netOf job)) p) (at (upperBound (netOf job)) p)) ≡ true
-  question-13 =
-      T-true _
-      (at-every (places (netOf job)) (λ p. leb (at (lowerBound (netOf job)) p) (at (upperBound (netOf job)) p))
-      (λ p h. let b = bounds-enclose job e p h in le→leb (at (lowerBound (netOf job)) p) (at (upperBound (netOf job)) p) (omega (arith, b .0, b .1, b .2))))
-    where
-      T-true : (b : Bool) → T b → b ≡ true
-      T-true true t = refl
-      T-true false t = absurd t
+  -- the reply with 14
+  pub reply-unsearched : (behind : List ℕ) → Unsearched (netOf job) (boundsReply (netOf job) ++ behind)
+  unfolding boundsReply
+  reply-unsearched behind =
+      let net : Net = netOf job in
+      let d : List ℕ = replicate 8 255 in
+      record {
+        delayBytes = reply-delay net d refl _ _ _ _ behind;
+        lean = reply-alike net d refl _ _ _ _ behind 2 255 (lit≤ tt) (λ p. refl);
+        wide = reply-alike net d refl _ _ _ _ behind 3 255 (lit≤ tt) (λ p. refl);
+        bounded = reply-bounded net (bounds-never-cross job e) d refl _ _ behind;
+      }
 
 -- The job's own questions have the numbers to 11.
 unfoldable AtMost : ℕ → List Question → Type 0
@@ -224,19 +214,16 @@ firstNo-le m (q ∷ qs) a = go (q .passed) (a .0) (firstNo-le m qs (a .1))
     go true h l = l
     go false h l = h
 
-refusal-le : (job : List ℕ) → refusal job ≤ 11
+pub refusal-le : (job : List ℕ) → refusal job ≤ 11
 unfolding refusal jobQuestions AtMost
 refusal-le job =
     firstNo-le 11 (jobQuestions job)
     (lit≤ tt, (lit≤ tt, (lit≤ tt, (lit≤ tt, (lit≤ tt, (lit≤ tt, (lit≤ tt, (lit≤ tt, (lit≤ tt, (lit≤ tt, (lit≤ tt, tt)))))))))))
 
--- The questions of size itself, 12 to 14.
+-- The questions of size itself, 12 and 14.
 module _ (job : List ℕ) (n : ℕ) where
   abbrev fits : Bool
   fits = leb (replyLength (netOf job)) n
-
-  abbrev ordered : Bool
-  ordered = every (places (netOf job)) (λ p. leb (at (lowerBound (netOf job)) p) (at (upperBound (netOf job)) p))
 
   abbrev few : Bool
   few = leb (room (netOf job)) 65536
@@ -247,7 +234,7 @@ module _ (job : List ℕ) (n : ℕ) where
 
   pub size-passes : refusal job ≡ 0 → sizeNumber job n ≡ cond fits (cond few 0 14) 12
   unfolding sizeNumber firstNo
-  size-passes e = job-passes job (ask 12 fits ∷ ask 13 ordered ∷ ask 14 few ∷ []) e ∙ rw (question-13 job e)
+  size-passes e = job-passes job (ask 12 fits ∷ ask 14 few ∷ []) e
 
   -- a reply comes only where the job passes and the buffer holds it
   pub replied-passes : Replied (sizeNumber job n) → (refusal job ≡ 0) × (replyLength (netOf job) ≤ n)
@@ -266,7 +253,7 @@ module _ (job : List ℕ) (n : ℕ) where
           no-reply (inl k) = z (sym (size-fails z) ∙ k)
           no-reply (inr k) = omega (arith, size-fails z, refusal-le job)
 
-  -- question 13 never fails
+  -- the number 13 is not used
   pub never-13 : sizeNumber job n ≡ 13 → ⊥
   never-13 k = go (ℕ-discrete (refusal job) 0)
     where
@@ -336,7 +323,7 @@ promises job before =
       refused = buffer-refused job before;
       rest = ⊎-elim (buffer-rest job before) (λ e. ap (drop (replyLength (netOf job))) e) (buffer-cases job before);
       finished = λ e. rw (buffer-finished job before e) (reply-finished job (replied-passes job (length before) (inl e) .0) (drop (replyLength (netOf job)) before));
-      unsearched = λ e. rw (buffer-bounds job before e) (bounds-unsearched (netOf job) (drop (replyLength (netOf job)) before));
+      unsearched = λ e. rw (buffer-bounds job before e) (reply-unsearched job (replied-passes job (length before) (inr e) .0) (drop (replyLength (netOf job)) before));
     }
 
 -- Neither the number nor a byte of the reply depends on what the buffer held.

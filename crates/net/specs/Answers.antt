@@ -84,14 +84,13 @@ chosen job x y = cond (eqb (chooseNumber job x y) 0) (sizingIn (netOf job) (cond
 abbrev pub replyLength : Net → ℕ
 replyLength net = 8 * suc (places net)
 
--- size: the number, where the caller's buffer holds n bytes.
+-- size: the number, where the caller's buffer holds n bytes. The number 13 is not used.
 unfoldable pub sizeNumber : List ℕ → ℕ → ℕ
 sizeNumber job n =
     let net : Net = netOf job in
     firstNo
     (jobQuestions job
     ++ ask 12 (leb (replyLength net) n)
-    ∷ ask 13 (every (places net) (λ p. leb (at (lowerBound net) p) (at (upperBound net) p)))
     ∷ ask 14 (leb (room net) 65536)
     ∷ [])
 

@@ -39,10 +39,11 @@ replyLean = replyBytes 2
 abbrev pub replyWide : Net → List ℕ → List ℕ
 replyWide = replyBytes 3
 
--- What both kinds of reply hold: the two bounds of the job, and zeros behind the four sizings.
+-- What both kinds of reply hold: the two bounds of the job, the lower at most the upper at each place, and zeros behind the four sizings.
 pub record Bounded (net : Net) (after : List ℕ) : Type 0 where
   pub lower : replyLower net after ≡ lowerBound net
   pub upper : replyUpper net after ≡ upperBound net
+  pub inOrder : (p : ℕ) → p < places net → at (replyLower net after) p ≤ at (replyUpper net after) p
   pub zeros : (j : ℕ) → 4 ≤ j → j < 8 → replyBytes j net after ≡ replicate (places net) 0
 
 -- A finished reply.

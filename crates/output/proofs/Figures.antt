@@ -21,7 +21,7 @@ use Rattle.net.specs.Questions.{refusal}
 use Rattle.net.specs.Answers.{replyLength, sizeNumber, finishedReply, boundsReply, sizeBuffer}
 use Rattle.net.specs.Promises.{valueOf, replyDelay, replyBytes, Replied}
 use Rattle.net.proofs.Questions.{checked}
-use Rattle.net.proofs.Promises.{size-fails, size-passes, replied-passes, least-fits, finished-delay, finished-lean, finished-wide, finished-bounded, bounds-unsearched, buffer-finished, buffer-bounds, buffer-refused, finished-long, bounds-long}
+use Rattle.net.proofs.Promises.{size-fails, size-passes, replied-passes, least-fits, finished-delay, finished-lean, finished-wide, finished-bounded, reply-unsearched, buffer-finished, buffer-bounds, buffer-refused, finished-long, bounds-long}
 use Rattle.output.specs.Printed.{Figures, indexText, placeLine, kindLines, placeLines, netFigures, netLines, refusedLine, answerText, jobNumber, jobText, printed, replyOf, replied, told, Holds}
 use Rattle.output.specs.Lines.{field, figuresIn, placeLinesIn, answerTextIn}
 
@@ -95,28 +95,32 @@ field-is : (net : Net) (after x : List ℕ) (j : ℕ) → replyBytes j net after
 unfolding replyBytes
 field-is net after x j e p h = sym (at-tabulate (places net) (λ q. at after (8 * suc q + j)) p h) ∙ ap (λ l. at l p) e
 
-finished-agree : (net : Net) (behind : List ℕ) → Agree true (places net) (figuresIn (finishedReply net ++ behind)) (netFigures net)
-finished-agree net behind =
-    record {
-      lower = field-is net _ _ 0 (finished-bounded net behind .lower);
-      upper = field-is net _ _ 1 (finished-bounded net behind .upper);
-      lean = λ p h t. field-is net _ _ 2 (finished-lean net behind) p h;
-      wide = λ p h t. field-is net _ _ 3 (finished-wide net behind) p h;
-    }
+module _ (job : List ℕ) (passes : refusal job ≡ 0) (behind : List ℕ) where
+  abbrev net : Net
+  net = netOf job
 
-bounds-agree : (net : Net) (behind : List ℕ) → Agree false (places net) (figuresIn (boundsReply net ++ behind)) (netFigures net)
-bounds-agree net behind =
-    record {
-      lower = field-is net _ _ 0 (bounds-unsearched net behind .bounded .lower);
-      upper = field-is net _ _ 1 (bounds-unsearched net behind .bounded .upper);
-      lean = λ p h t. never t;
-      wide = λ p h t. never t;
-    }
-  where
-    never : {A : Type 0} → false ≡ true → A
-    never t =
-        let z : _≡_ {A = ℕ} 0 1 = cc in
-        absurd (omega arith)
+  finished-agree : Agree true (places net) (figuresIn (finishedReply net ++ behind)) (netFigures net)
+  finished-agree =
+      record {
+        lower = field-is net _ _ 0 (finished-bounded job passes behind .lower);
+        upper = field-is net _ _ 1 (finished-bounded job passes behind .upper);
+        lean = λ p h t. field-is net _ _ 2 (finished-lean net behind) p h;
+        wide = λ p h t. field-is net _ _ 3 (finished-wide net behind) p h;
+      }
+
+  bounds-agree : Agree false (places net) (figuresIn (boundsReply net ++ behind)) (netFigures net)
+  bounds-agree =
+      record {
+        lower = field-is net _ _ 0 (reply-unsearched job passes behind .bounded .lower);
+        upper = field-is net _ _ 1 (reply-unsearched job passes behind .bounded .upper);
+        lean = λ p h t. never t;
+        wide = λ p h t. never t;
+      }
+    where
+      never : {A : Type 0} → false ≡ true → A
+      never t =
+          let z : _≡_ {A = ℕ} 0 1 = cc in
+          absurd (omega arith)
 
 module _ (job before : List ℕ) where
   -- with the number 0
@@ -126,7 +130,7 @@ module _ (job before : List ℕ) where
       let net : Net = netOf job in
       let d : List ℕ = drop (replyLength net) before in
       rw (buffer-finished job before e, finished-delay net d (least-fits job (replied-passes job (length before) (inl e) .0)))
-      (rw (places-same true (places net) (figuresIn (finishedReply net ++ d)) (netFigures net) (finished-agree net d) (net .stages) (net .segments) (omega arith)))
+      (rw (places-same true (places net) (figuresIn (finishedReply net ++ d)) (netFigures net) (finished-agree job (replied-passes job (length before) (inl e) .0) d) (net .stages) (net .segments) (omega arith)))
 
   -- with the number 14
   pub bounds-lines : sizeNumber job (length before) ≡ 14 → placeLinesIn (sizeBuffer job before) false (countsOf job) ≡ netLines false (netOf job)
@@ -135,7 +139,7 @@ module _ (job before : List ℕ) where
       let net : Net = netOf job in
       let d : List ℕ = drop (replyLength net) before in
       rw (buffer-bounds job before e)
-      (places-same false (places net) (figuresIn (boundsReply net ++ d)) (netFigures net) (bounds-agree net d) (net .stages) (net .segments) (omega arith))
+      (places-same false (places net) (figuresIn (boundsReply net ++ d)) (netFigures net) (bounds-agree job (replied-passes job (length before) (inr e) .0) d) (net .stages) (net .segments) (omega arith))
 
 -- What an input of at most 65,536 bytes comes to, where `after` is what size has made of a buffer of 552 bytes, with the number n.
 pub record Sized (input before : List ℕ) (n : ℕ) (after : List ℕ) : Type 0 where

@@ -1,87 +1,52 @@
 -- The numbers of size and the buffer at each: every way through the code is the definition.
-use mathlib.Core.Path.{_≡_, refl, sym, ap, subst, _∙_}
-use mathlib.Core.Bool.{Bool, true, false, cond}
-use mathlib.Core.List.{List, [], _∷_, _++_}
+use mathlib.Core.Path.{_≡_, sym, ap, subst, _∙_}
+use mathlib.Core.Bool.{Bool, true, false}
+use mathlib.Core.List.{List, [], _++_}
 use Prim.Native.Nat.{ℕ, suc, _*_, _-_, _≤_, _<_}
 use native.Mathlib.Omega.{arith}
 use borrow.Author.Tests.{le-leb, lt-leb, ne-eqb}
-use lib.Dec.{leb, lit≤}
+use lib.Dec.{leb}
 use lib.ListN.{length, drop, replicate}
-use Rattle.lattice.specs.Lists.{at, every, product}
+use Rattle.lattice.specs.Lists.{at, product}
 use Rattle.lattice.specs.Space.{within}
 use Rattle.lattice.specs.Refine as refining
 use Rattle.net.specs.declared.Counts.{Counts}
 use Rattle.net.specs.Net.{Net, places, netBy, netOf}
-use Rattle.net.specs.Sizings.{lowerBound, upperBound, room}
+use Rattle.net.specs.Sizings.{room}
 use Rattle.net.specs.Checked.{Checked}
-use Rattle.net.specs.Questions.{Question, ask, firstNo, jobQuestions, refusal}
+use Rattle.net.specs.Questions.{firstNo, refusal}
 use Rattle.net.specs.Answers.{replyLength, sizeNumber, boundsReply, replyRecords, sizeBuffer}
 use Rattle.net.specs.Promises.{Promises}
-use Rattle.net.proofs.Promises.{promises}
+use Rattle.net.proofs.Promises.{promises, refusal-le}
 use Rattle.net.proofs.Answers.{firstNo-yes, firstNo-no, job-passes, job-fails}
 use Rattle.finish.specs.Parts.{Bounded, bufferFrom}
 use Rattle.finish.proofs.Parts.{lower-long}
 use Rattle.size.specs.Numbers.{numberFrom}
 
--- questions 13 and 14
+-- question 14
 module _ (net : Net) (lower upper : List ℕ) (b : Bounded net lower upper) where
-  pub order-is : every (places net) (λ p. leb (at lower p) (at upper p)) ≡ every (places net) (λ p. leb (at (lowerBound net) p) (at (upperBound net) p))
-  order-is = rw (b .isLower, b .isUpper)
-
-  pub room-is : product (places net) (λ p. suc (at upper p - at lower p)) ≡ room net
+  room-is : product (places net) (λ p. suc (at upper p - at lower p)) ≡ room net
   unfolding refining.room within
   room-is = rw (b .isLower, b .isUpper)
 
-  pub number-13 : (r : Bool) → r ≡ every (places net) (λ p. leb (at lower p) (at upper p)) → r ≡ false → 13 ≡ numberFrom net
-  unfolding numberFrom
-  number-13 r e f = sym (firstNo-no 13 (ask 14 (leb (room net) 65536) ∷ []) _ (sym order-is ∙ sym e ∙ f))
-
-  module _ (r : Bool) (e : r ≡ every (places net) (λ p. leb (at lower p) (at upper p))) (f : r ≡ true)
-      (t : Bool) (g : t ≡ leb (product (places net) (λ p. suc (at upper p - at lower p))) 65536) where
-    passed-13 : numberFrom net ≡ firstNo (ask 14 (leb (room net) 65536) ∷ [])
-    unfolding numberFrom
-    passed-13 = firstNo-yes 13 (ask 14 (leb (room net) 65536) ∷ []) _ (sym order-is ∙ sym e ∙ f)
-
+  module _ (t : Bool) (g : t ≡ leb (product (places net) (λ p. suc (at upper p - at lower p))) 65536) where
     fits-is : t ≡ leb (room net) 65536
     fits-is = g ∙ ap (λ n. leb n 65536) room-is
 
     pub number-14 : t ≡ false → 14 ≡ numberFrom net
-    number-14 h = sym (passed-13 ∙ firstNo-no 14 [] _ (sym fits-is ∙ h))
+    unfolding numberFrom
+    number-14 h = sym (firstNo-no 14 [] _ (sym fits-is ∙ h))
 
     pub number-0 : t ≡ true → 0 ≡ numberFrom net
-    unfolding firstNo
-    number-0 h = sym (passed-13 ∙ firstNo-yes 14 [] _ (sym fits-is ∙ h))
+    unfolding numberFrom firstNo
+    number-0 h = sym (firstNo-yes 14 [] _ (sym fits-is ∙ h))
 
--- the buffer at each number
-pub buffer-13 : (net : Net) (before : List ℕ) → before ≡ bufferFrom net 13 before
-unfolding bufferFrom
-buffer-13 net before = refl
-
+-- the buffer at 14
 module _ {c : Counts} {job lower upper : List ℕ} (k : Checked c job) (b : Bounded (netBy c job) lower upper) (before after : List ℕ) where
   pub buffer-14 : after ≡ replyRecords (length lower) (replicate 8 255) (at lower) (at upper) (λ p. 255) (λ p. 255) ++ drop (8 * suc (length lower)) before
       → after ≡ bufferFrom (netBy c job) 14 before
   unfolding bufferFrom boundsReply
   buffer-14 e = e ∙ rw (lower-long k b, b .isLower, b .isUpper)
-
--- the job's own questions
-unfoldable Most : ℕ → List Question → Type 0
-Most m [] = Unit {0}
-Most m (q ∷ qs) = (q .number ≤ m) × Most m qs
-
-firstNo-most : (m : ℕ) (qs : List Question) → Most m qs → firstNo qs ≤ m
-unfolding firstNo Most
-firstNo-most m [] a = omega arith
-firstNo-most m (q ∷ qs) a = go (q .passed) (firstNo-most m qs (a .1))
-  where
-    go : (t : Bool) → firstNo qs ≤ m → cond t (firstNo qs) (q .number) ≤ m
-    go true h = h
-    go false h = a .0
-
-refusal-most : (job : List ℕ) → refusal job ≤ 11
-unfolding refusal jobQuestions Most
-refusal-most job =
-    firstNo-most 11 (jobQuestions job)
-    (lit≤ tt, (lit≤ tt, (lit≤ tt, (lit≤ tt, (lit≤ tt, (lit≤ tt, (lit≤ tt, (lit≤ tt, (lit≤ tt, (lit≤ tt, (lit≤ tt, tt)))))))))))
 
 -- a number other than 0 and 14 leaves the buffer
 untouched : (job before : List ℕ) → (sizeNumber job (length before) ≡ 0 → ⊥) → (sizeNumber job (length before) ≡ 14 → ⊥) → before ≡ sizeBuffer job before
@@ -100,7 +65,7 @@ module _ (job before : List ℕ) where
   unfolding sizeNumber
   size-job n e z =
       let f : sizeNumber job (length before) ≡ n = job-fails job _ (λ g. z (e ∙ g)) ∙ sym e in
-      let m : n ≤ 11 = omega (arith, refusal-most job) in
+      let m : n ≤ 11 = omega (arith, refusal-le job) in
       settled job before n before (sym f) (untouched job before (λ g. z (sym f ∙ g)) (λ g. omega arith))
 
   module _ {c : Counts} (k : Checked c job) (passes : refusal job ≡ 0) where

@@ -14,7 +14,7 @@ ghost use Rattle.place.specs.ByCounts.{Weighed};
 ghost use Rattle.finish.specs.Parts.{BoundedBy, bufferBy};
 ghost use Rattle.size.specs.Numbers.{numberFrom};
 
-// Questions 13 and 14, and the reply.
+// Question 14, and the reply.
 fn answer(
     job: &[u8],
     counts: Counts,
@@ -31,9 +31,6 @@ fn answer(
     ensures buffer { λ r. ⌜ now (reply .exit) ≡ bufferBy counts (now (job .entry)) r (now (reply .entry)) ⌝ }
 {
     let places = counts.stages + counts.segments;
-    if !bounds::in_order(lower, upper, places) {
-        return 13;
-    }
     if !bounds::room_fits(lower, upper, places) {
         reply::bounds_only(reply, lower, upper);
         return 14;
