@@ -9,4 +9,5 @@ pub mod Questions
 pub mod Answers
 pub mod Demands
 pub mod Promises
+pub mod Former
 pub mod Starred
