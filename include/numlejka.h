@@ -30,8 +30,8 @@
  *     16    Is each index in its place's range?                                                       measure, refine, choose
  *     17    Is the place below P?                                                                     refine
  *
- * The number 13 is not used, and no function returns it: it was the question whether the lower bound of a place exceeds
- * the upper, which never happens.
+ * The number 13 is not used, and no function returns it: it was that of the question whether the lower bound of each
+ * place is at most the upper, which always holds.
  *
  * Buffers. A buffer is a pointer to its first byte and its length in bytes. The pointer of a buffer of length 0 may be
  * null: nothing is read or written through it. Every other pointer points to as many bytes as its length says, and a

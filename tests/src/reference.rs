@@ -244,7 +244,7 @@ pub fn room(bounds: &Bounds) -> u128 {
             .lower
             .iter()
             .zip(&bounds.upper)
-            .map(|(lower, upper)| u128::from(upper.checked_sub(*lower).expect("bounds that do not cross")) + 1),
+            .map(|(lower, upper)| u128::from(upper.checked_sub(*lower).expect("a lower bound at most the upper")) + 1),
     )
 }
 

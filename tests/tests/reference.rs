@@ -243,7 +243,7 @@ fn the_clock_net_is_answered() {
     check_theory(&net, &bounds, &found);
 }
 
-/// The generated calls reach every number of every operation, and no other: 13 is not used.
+/// The generated calls reach every number of every operation, and no other.
 #[test]
 fn every_number_is_reached() {
     let mut counts = Counts::new();

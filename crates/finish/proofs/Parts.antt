@@ -39,8 +39,9 @@ module _ {c : Counts} {job : List ℕ} (k : Checked c job) where
   pub upper-long : {l u : List ℕ} → Bounded (netBy c job) l u → length u ≡ places (netBy c job)
   upper-long b = ap length (b .isUpper) ∙ allowed-iff (netBy c job) (upperBound (netBy c job)) .0 upper-allowed .long
 
-  pub never-cross : {l u : List ℕ} → Bounded (netBy c job) l u → (p : ℕ) → p < places (netBy c job) → at l p ≤ at u p
-  never-cross b = rw (b .isLower, b .isUpper) (checked-never-cross k)
+  -- the bounds that are given do not cross
+  pub given-in-order : {l u : List ℕ} → Bounded (netBy c job) l u → (p : ℕ) → p < places (netBy c job) → at l p ≤ at u p
+  given-in-order b = rw (b .isLower, b .isUpper) (checked-never-cross k)
 
   -- the search may start
   pub bounds : {weights lower upper : List ℕ} → WeightsFrom (netBy c job) 0 weights → Bounded (netBy c job) lower upper → Bounds c job weights lower upper
@@ -50,7 +51,7 @@ module _ {c : Counts} {job : List ℕ} (k : Checked c job) where
         weighed = w;
         lowerAllowed = rw (b .isLower) lower-allowed;
         upperAllowed = rw (b .isUpper) upper-allowed;
-        inOrder = never-cross b;
+        inOrder = given-in-order b;
       }
 
   -- and finds what it is for

@@ -1,12 +1,12 @@
--- Definitions as they were before a change, and what the change comes to. None of them is a definition of the library.
-use mathlib.Core.Path.{_≡_, _∙_, refl, sym}
-use mathlib.Core.Bool.{Bool, true, false}
+-- Definitions as they were before a change, and what stayed equal. None of them is a definition of the library.
+use mathlib.Core.Path.{_≡_, _∙_, sym}
+use mathlib.Core.Bool.{Bool, true}
 use mathlib.Core.List.{List, [], _∷_, _++_}
 use Prim.Native.Nat.{ℕ}
 use native.Mathlib.Decide.{ℕ-discrete}
-use lib.Dec.{T, leb, le→leb}
+use lib.Dec.{leb, le→leb}
 use Rattle.lattice.specs.Lists.{at, every}
-use Rattle.lattice.proofs.ListLaws.{at-every}
+use Rattle.lattice.proofs.ListLaws.{is-true, at-every}
 use Rattle.net.specs.Net.{places, netOf}
 use Rattle.net.specs.Sizings.{lowerBound, upperBound, room}
 use Rattle.net.specs.Questions.{Question, ask, firstNo, jobQuestions, refusal}
@@ -14,10 +14,6 @@ use Rattle.net.specs.Answers.{replyLength, sizeNumber}
 use Rattle.net.proofs.Answers.{job-passes, job-fails}
 use Rattle.net.proofs.Demands.{bounds-never-cross}
 use Rattle.net.proofs.Promises.{size-fails, size-passes}
-
-T-true : (b : Bool) → T b → b ≡ true
-T-true true t = refl
-T-true false t = absurd t
 
 -- The number of size as it was while question 13 was asked.
 module _ (job : List ℕ) (n : ℕ) where
@@ -32,7 +28,7 @@ module _ (job : List ℕ) (n : ℕ) where
   formerSizeNumber = firstNo (jobQuestions job ++ own)
 
   question13-passes : refusal job ≡ 0 → question13 ≡ true
-  question13-passes e = T-true _ (at-every (places (netOf job)) _ (λ p h. le→leb _ _ (bounds-never-cross job e p h)))
+  question13-passes e = is-true _ (at-every (places (netOf job)) _ (λ p h. le→leb _ _ (bounds-never-cross job e p h)))
 
   -- Without the question every job and every buffer gets the number that it got with it.
   pub same-number : formerSizeNumber ≡ sizeNumber job n

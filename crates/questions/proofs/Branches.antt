@@ -1,6 +1,6 @@
 -- Question 11 by the first segment at each node: a segment has branches where there is a first segment at its far end.
 use mathlib.Core.Path.{_≡_, _∙_, refl, sym}
-use mathlib.Core.Bool.{Bool, true, false}
+use mathlib.Core.Bool.{Bool, false}
 use mathlib.Core.List.{List}
 use Prim.Native.Nat.{ℕ, zero, suc, _+_, _≤_, _<_}
 use native.Mathlib.Nat.{add-assoc}
@@ -8,20 +8,16 @@ use native.Mathlib.Numerals.{add-one}
 use native.Mathlib.Decide.{decLe}
 use native.Mathlib.Omega.{arith}
 use borrow.Author.Tests.{lt-ltb, le-ltb, ne-eqb}
-use lib.Dec.{T, ltb, eqb}
+use lib.Dec.{ltb, eqb}
 use lib.ListN.{getD}
 use Rattle.lattice.specs.Lists.{every, some}
-use Rattle.lattice.proofs.ListLaws.{eq-T, at-some}
+use Rattle.lattice.proofs.ListLaws.{is-true, eq-T, at-some}
 use Rattle.net.specs.declared.Counts.{Counts}
 use Rattle.net.specs.Net.{Net, netBy}
 use Rattle.net.specs.Questions.{question11}
 use Rattle.runs.specs.Records.{sinkOrBranch}
 use Rattle.questions.specs.Check.{Firsts}
 use Rattle.lattice.proofs.Every.{every-same}
-
-is-true : (t : Bool) → T t → t ≡ true
-is-true true h = refl
-is-true false h = absurd h
 
 some-none : (n : ℕ) (f : ℕ → Bool) → ((p : ℕ) → p < n → f p ≡ false) → some n f ≡ false
 unfolding some

@@ -39,7 +39,7 @@ fn answer(
     0
 }
 
-// Both bounds, then the questions that need them and the reply.
+// Both bounds, then the question that needs them, and the reply.
 fn bound_and_answer(
     job: &[u8],
     counts: Counts,

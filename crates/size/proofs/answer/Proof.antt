@@ -3,7 +3,7 @@ use mathlib.Core.Path.{sym, _∙_}
 use native.Mathlib.Omega.{arith}
 use borrow.Author.Tests.{not-true, not-false}
 use Rattle.net.specs.Net.{netBy}
-use Rattle.finish.proofs.Parts.{lower-long, upper-long, never-cross}
+use Rattle.finish.proofs.Parts.{lower-long, upper-long, given-in-order}
 use Rattle.size.proofs.Numbers.{number-14, number-0, buffer-14}
 use borrow.Author.Needs.{needs}
 use Rattle.size.proofs.answer.Statement.{statement}
@@ -18,7 +18,7 @@ room-fits-requires c κs =
     record {
       lowerLong = omega (arith, lower-long (b .pre .0) (b .pre .1 .1 .0));
       upperLong = omega (arith, upper-long (b .pre .0) (b .pre .1 .1 .0));
-      inOrder = never-cross (b .pre .0) (b .pre .1 .1 .0);
+      inOrder = given-in-order (b .pre .0) (b .pre .1 .1 .0);
     }
 
 bounds-only-requires : tie.Need-bounds-only-requires
