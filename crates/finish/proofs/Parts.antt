@@ -6,8 +6,6 @@ use native.Mathlib.Omega.{arith}
 use lib.ListN.{length, drop}
 use Rattle.lattice.specs.Lists.{at}
 use Rattle.lattice.specs.Space.{Allowed, within}
-use Rattle.lattice.specs.Least as least
-use Rattle.lattice.specs.Refine as refining
 use Rattle.lattice.specs.Search.{Found, takes, cover}
 use Rattle.lattice.proofs.Theorems.{lower-fixed, upper-fixed, enclosed}
 use Rattle.lattice.proofs.Searching.{Finds, cover-finds}

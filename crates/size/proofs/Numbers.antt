@@ -1,45 +1,42 @@
 -- The numbers of size and the buffer at each: every way through the code is the definition.
 use mathlib.Core.Path.{_≡_, sym, ap, subst, _∙_}
 use mathlib.Core.Bool.{Bool, true, false}
-use mathlib.Core.List.{List, [], _++_}
-use Prim.Native.Nat.{ℕ, suc, _*_, _-_, _≤_, _<_}
+use mathlib.Core.List.{List, _++_}
+use Prim.Native.Nat.{ℕ, suc, _*_, _≤_, _<_}
 use native.Mathlib.Omega.{arith}
-use borrow.Author.Tests.{le-leb, lt-leb, ne-eqb}
+use borrow.Author.Tests.{le-leb, lt-leb}
 use lib.Dec.{leb}
 use lib.ListN.{length, drop, replicate}
-use Rattle.lattice.specs.Lists.{at, product}
+use Rattle.lattice.specs.Lists.{at}
 use Rattle.lattice.specs.Space.{within}
 use Rattle.lattice.specs.Refine as refining
 use Rattle.net.specs.declared.Counts.{Counts}
 use Rattle.net.specs.Net.{Net, places, netBy, netOf}
 use Rattle.net.specs.Sizings.{room}
 use Rattle.net.specs.Checked.{Checked}
-use Rattle.net.specs.Questions.{firstNo, refusal}
+use Rattle.net.specs.Questions.{refusal}
 use Rattle.net.specs.Answers.{replyLength, sizeNumber, boundsReply, replyRecords, sizeBuffer}
 use Rattle.net.specs.Promises.{Promises}
-use Rattle.net.proofs.Promises.{promises, refusal-le}
-use Rattle.net.proofs.Answers.{firstNo-yes, firstNo-no, job-passes, job-fails}
+use Rattle.net.proofs.Promises.{promises, refusal-le, size-fails, size-passes, buffer-refused}
+use Rattle.bounds.specs.Between.{roomy}
 use Rattle.finish.specs.Parts.{Bounded, bufferFrom}
 use Rattle.finish.proofs.Parts.{lower-long}
-use Rattle.size.specs.Numbers.{numberFrom}
+use Rattle.size.specs.Numbers.{roomNumber}
 
 -- question 14
 module _ (net : Net) (lower upper : List ℕ) (b : Bounded net lower upper) where
-  room-is : product (places net) (λ p. suc (at upper p - at lower p)) ≡ room net
+  fits-is : leb (room net) 65536 ≡ roomy (places net) lower upper
   unfolding refining.room within
-  room-is = rw (b .isLower, b .isUpper)
+  fits-is = rw (b .isLower, b .isUpper)
 
-  module _ (t : Bool) (g : t ≡ leb (product (places net) (λ p. suc (at upper p - at lower p))) 65536) where
-    fits-is : t ≡ leb (room net) 65536
-    fits-is = g ∙ ap (λ n. leb n 65536) room-is
+  module _ (t : Bool) (g : t ≡ roomy (places net) lower upper) where
+    pub number-14 : t ≡ false → 14 ≡ roomNumber net
+    unfolding roomNumber
+    number-14 h = rw (fits-is ∙ sym g ∙ h)
 
-    pub number-14 : t ≡ false → 14 ≡ numberFrom net
-    unfolding numberFrom
-    number-14 h = sym (firstNo-no 14 [] _ (sym fits-is ∙ h))
-
-    pub number-0 : t ≡ true → 0 ≡ numberFrom net
-    unfolding numberFrom firstNo
-    number-0 h = sym (firstNo-yes 14 [] _ (sym fits-is ∙ h))
+    pub number-0 : t ≡ true → 0 ≡ roomNumber net
+    unfolding roomNumber
+    number-0 h = rw (fits-is ∙ sym g ∙ h)
 
 -- the buffer at 14
 module _ {c : Counts} {job lower upper : List ℕ} (k : Checked c job) (b : Bounded (netBy c job) lower upper) (before after : List ℕ) where
@@ -47,11 +44,6 @@ module _ {c : Counts} {job lower upper : List ℕ} (k : Checked c job) (b : Boun
       → after ≡ bufferFrom (netBy c job) 14 before
   unfolding bufferFrom boundsReply
   buffer-14 e = e ∙ rw (lower-long k b, b .isLower, b .isUpper)
-
--- a number other than 0 and 14 leaves the buffer
-untouched : (job before : List ℕ) → (sizeNumber job (length before) ≡ 0 → ⊥) → (sizeNumber job (length before) ≡ 14 → ⊥) → before ≡ sizeBuffer job before
-unfolding sizeBuffer
-untouched job before a b = rw (ne-eqb (sizeNumber job (length before)) 0 a, ne-eqb (sizeNumber job (length before)) 14 b)
 
 -- what the contract of size says of its number and of the buffer that it leaves
 abbrev pub Settled : List ℕ → List ℕ → ℕ → List ℕ → Type 0
@@ -62,28 +54,26 @@ settled job before n after e f = (e, (f, rw (e, f) (promises job before)))
 
 module _ (job before : List ℕ) where
   pub size-job : (n : ℕ) → n ≡ refusal job → (n ≡ 0 → ⊥) → Settled job before n before
-  unfolding sizeNumber
   size-job n e z =
-      let f : sizeNumber job (length before) ≡ n = job-fails job _ (λ g. z (e ∙ g)) ∙ sym e in
+      let f : sizeNumber job (length before) ≡ n = size-fails job (length before) (λ g. z (e ∙ g)) ∙ sym e in
       let m : n ≤ 11 = omega (arith, refusal-le job) in
-      settled job before n before (sym f) (untouched job before (λ g. z (sym f ∙ g)) (λ g. omega arith))
+      settled job before n before (sym f) (sym (buffer-refused job before (λ g. z (sym f ∙ g)) (λ g. omega arith)))
 
   module _ {c : Counts} (k : Checked c job) (passes : refusal job ≡ 0) where
     net-is : netBy c job ≡ netOf job
     net-is = ap (λ d. netBy d job) (k .counted)
 
     pub size-12 : length before < replyLength (netBy c job) → Settled job before 12 before
-    unfolding sizeNumber
     size-12 h =
         let g : length before < replyLength (netOf job) = subst (λ n. length before < replyLength n) net-is h in
-        let f : sizeNumber job (length before) ≡ 12 = job-passes job _ passes ∙ firstNo-no 12 _ (leb (replyLength (netOf job)) (length before)) (lt-leb _ _ g) in
-        settled job before 12 before (sym f) (untouched job before (λ e. omega arith) (λ e. omega arith))
+        let f : sizeNumber job (length before) ≡ 12 = size-passes job (length before) passes ∙ rw (lt-leb _ _ g) in
+        settled job before 12 before (sym f) (sym (buffer-refused job before (λ e. omega arith) (λ e. omega arith)))
 
-    pub size-answer : (n : ℕ) (after : List ℕ) → replyLength (netBy c job) ≤ length before → n ≡ numberFrom (netBy c job) → after ≡ bufferFrom (netBy c job) n before
+    pub size-answer : (n : ℕ) (after : List ℕ) → replyLength (netBy c job) ≤ length before → n ≡ roomNumber (netBy c job) → after ≡ bufferFrom (netBy c job) n before
         → Settled job before n after
-    unfolding sizeNumber numberFrom bufferFrom sizeBuffer
+    unfolding roomNumber bufferFrom sizeBuffer
     size-answer n after h e f =
         let g : replyLength (netOf job) ≤ length before = subst (λ m. replyLength m ≤ length before) net-is h in
-        let i : sizeNumber job (length before) ≡ numberFrom (netOf job) = job-passes job _ passes ∙ firstNo-yes 12 _ (leb (replyLength (netOf job)) (length before)) (le-leb _ _ g) in
-        let j : n ≡ sizeNumber job (length before) = e ∙ ap numberFrom net-is ∙ sym i in
+        let i : sizeNumber job (length before) ≡ roomNumber (netOf job) = size-passes job (length before) passes ∙ rw (le-leb _ _ g) in
+        let j : n ≡ sizeNumber job (length before) = e ∙ ap roomNumber net-is ∙ sym i in
         settled job before n after j (f ∙ ap (λ m. bufferFrom m n before) net-is ∙ ap (λ m. bufferFrom (netOf job) m before) j)

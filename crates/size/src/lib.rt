@@ -12,7 +12,7 @@ ghost use Rattle.net.specs.Promises.{Promises};
 ghost use Rattle.links.specs.Links.{LinkedBy};
 ghost use Rattle.place.specs.ByCounts.{Weighed};
 ghost use Rattle.finish.specs.Parts.{BoundedBy, bufferBy};
-ghost use Rattle.size.specs.Numbers.{numberFrom};
+ghost use Rattle.size.specs.Numbers.{roomNumber};
 
 // Question 14, and the reply.
 fn answer(
@@ -27,7 +27,7 @@ fn answer(
     requires { ⌜ Weighed counts (now job) (now weights) ⌝ }
     requires { ⌜ BoundedBy counts (now job) (now lower) (now upper) ⌝ }
     requires { ⌜ 8 * suc (placesBy counts) ≤ length (now reply) ⌝ }
-    ensures number { λ r. ⌜ r ≡ numberFrom (netBy counts (now (job .entry))) ⌝ }
+    ensures number { λ r. ⌜ r ≡ roomNumber (netBy counts (now (job .entry))) ⌝ }
     ensures buffer { λ r. ⌜ now (reply .exit) ≡ bufferBy counts (now (job .entry)) r (now (reply .entry)) ⌝ }
 {
     let places = counts.stages + counts.segments;
@@ -53,7 +53,7 @@ fn bound_and_answer(
     requires { ⌜ LinkedBy counts (now job) (now first) (now next) ⌝ }
     requires { ⌜ ForPlaces counts (now lower) × ForPlaces counts (now upper) ⌝ }
     requires { ⌜ 8 * suc (placesBy counts) ≤ length (now reply) ⌝ }
-    ensures number { λ r. ⌜ r ≡ numberFrom (netBy counts (now (job .entry))) ⌝ }
+    ensures number { λ r. ⌜ r ≡ roomNumber (netBy counts (now (job .entry))) ⌝ }
     ensures buffer { λ r. ⌜ now (reply .exit) ≡ bufferBy counts (now (job .entry)) r (now (reply .entry)) ⌝ }
 {
     let mut weights = [0u64; 68];
