@@ -5,6 +5,7 @@ use crate::jobs::{self, Shape};
 /// What a case calls.
 pub enum Work {
     Measure { sizing: Vec<u8> },
+    Refine { sizing: Vec<u8>, place: usize },
     Size,
 }
 
@@ -21,6 +22,17 @@ fn measure(name: &str, stages: usize, segments: usize, shape: Shape) -> Case {
         job: jobs::net(stages, segments, shape).bytes(),
         work: Work::Measure {
             sizing: jobs::sizing(stages, segments),
+        },
+    }
+}
+
+fn refine(name: &str, stages: usize, segments: usize, place: usize) -> Case {
+    Case {
+        name: format!("refine, {name}"),
+        job: jobs::net(stages, segments, Shape::Binary).bytes(),
+        work: Work::Refine {
+            sizing: jobs::sizing(stages, segments),
+            place,
         },
     }
 }
@@ -44,6 +56,12 @@ pub fn all() -> Vec<Case> {
     }
     cases.push(measure("1 stage, 64 segments in a chain", 1, 64, Shape::Chain));
     cases.push(measure("1 stage, 64 segments at the source", 1, 64, Shape::Star));
+    cases.extend([
+        refine("hardest: 4 stages, 64 segments, at the last stage", 4, 64, 3),
+        refine("hardest: 4 stages, 64 segments, at the last segment", 4, 64, 67),
+        refine("median: 2 stages, 16 segments, at the last stage", 2, 16, 1),
+        refine("median: 2 stages, 16 segments, at the last segment", 2, 16, 17),
+    ]);
     cases.push(size(
         "bounds only: 2 stages, 16 segments, room 1",
         jobs::net(2, 16, Shape::Binary).bytes(),

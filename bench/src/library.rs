@@ -1,7 +1,5 @@
 //! The library through its Rust binding, in the form that the benchmark times.
 
-#[cfg(test)]
-use numlejka::Side;
 use numlejka::c::numlejka_size;
 
 /// Delay and load figure of a sizing, or the number of the first question that fails.
@@ -12,11 +10,12 @@ pub fn measure(job: &[u8], sizing: &[u8]) -> Result<(u64, u64), usize> {
     }
 }
 
-/// The best index at a place, or the number of the first question that fails.
-#[cfg(test)]
-pub fn refine(job: &[u8], sizing: &[u8], place: usize, above: bool) -> Result<u8, usize> {
-    let side = if above { Side::Above } else { Side::Below };
-    numlejka::refine(job, sizing, place, side).map_err(|refusal| refusal.number)
+/// Both ends of the tie at a place and the delay that either reaches, or the number of the first question that fails.
+pub fn refine(job: &[u8], sizing: &[u8], place: usize) -> Result<(u8, u8, u64), usize> {
+    match numlejka::refine(job, sizing, place) {
+        Ok(refined) => Ok((refined.lowest, refined.highest, refined.delay)),
+        Err(refusal) => Err(refusal.number),
+    }
 }
 
 /// Sizes a job; the reply goes to the start of `reply`.

@@ -30,13 +30,31 @@ fn measure_timed(job: &[u8], sizing: &[u8], measure: impl Fn(&[u8], &[u8]) -> Re
     }
 }
 
-/// The times of a case: the library, plain Rust (a), (c), and (b) where the case has a search.
+fn refine_timed(
+    job: &[u8],
+    sizing: &[u8],
+    place: usize,
+    refine: impl Fn(&[u8], &[u8], usize) -> Result<plain::Refined, usize>,
+) -> impl FnMut() {
+    let (job, sizing) = (job.to_vec(), sizing.to_vec());
+    move || {
+        let _ = black_box(refine(black_box(&job), black_box(&sizing), black_box(place)));
+    }
+}
+
+/// The times of a case: the library, plain Rust (a), (c), and (b) where the case tries indices or sizings.
 fn times(case: &Case) -> Times {
     match &case.work {
         Work::Measure { sizing } => interleaved(&mut [
             &mut measure_timed(&case.job, sizing, library::measure),
             &mut measure_timed(&case.job, sizing, plain::measure),
             &mut measure_timed(&case.job, sizing, plain::measure_fastest),
+        ]),
+        Work::Refine { sizing, place } => interleaved(&mut [
+            &mut refine_timed(&case.job, sizing, *place, library::refine),
+            &mut refine_timed(&case.job, sizing, *place, plain::refine),
+            &mut refine_timed(&case.job, sizing, *place, plain::refine_fastest),
+            &mut refine_timed(&case.job, sizing, *place, plain::refine_by_whole_delays),
         ]),
         Work::Size => interleaved(&mut [
             &mut size_timed(&case.job, library::size),
@@ -70,7 +88,7 @@ fn print_table(text: &str) {
         let [library, as_library, fastest] = [0, 1, 2].map(|side| figure(times.median(side)));
         let whole = match &case.work {
             Work::Measure { .. } => "– | –".to_string(),
-            Work::Size => format!("{} | {}", figure(times.median(3)), ratio(&times, 3, 0)),
+            Work::Refine { .. } | Work::Size => format!("{} | {}", figure(times.median(3)), ratio(&times, 3, 0)),
         };
         println!(
             "| {} | {library} | {as_library} | {} | {whole} | {fastest} | {} |",
@@ -96,6 +114,10 @@ fn only(words: &[String]) {
         (Work::Measure { sizing }, "library") => Box::new(measure_timed(&case.job, sizing, library::measure)),
         (Work::Measure { sizing }, "c") => Box::new(measure_timed(&case.job, sizing, plain::measure_fastest)),
         (Work::Measure { sizing }, _) => Box::new(measure_timed(&case.job, sizing, plain::measure)),
+        (Work::Refine { sizing, place }, "library") => Box::new(refine_timed(&case.job, sizing, *place, library::refine)),
+        (Work::Refine { sizing, place }, "c") => Box::new(refine_timed(&case.job, sizing, *place, plain::refine_fastest)),
+        (Work::Refine { sizing, place }, "b") => Box::new(refine_timed(&case.job, sizing, *place, plain::refine_by_whole_delays)),
+        (Work::Refine { sizing, place }, _) => Box::new(refine_timed(&case.job, sizing, *place, plain::refine)),
         (Work::Size, "library") => Box::new(size_timed(&case.job, library::size)),
         (Work::Size, "c") => Box::new(size_timed(&case.job, plain::size_fastest)),
         (Work::Size, "b") => Box::new(size_timed(&case.job, plain::size_by_whole_delays)),

@@ -2,8 +2,9 @@
 //! Nothing is shared with the library. A job that passes the questions is read in place, through slices of its records.
 //!
 //! Three ways to go:
-//! (a) as the library goes: the delay by a walk over the branches; the best index of a place by what it drives and the
-//!     resistance upstream of it; the search through the free places, with what the held ones give summed once;
+//! (a) as the library goes: the delay by a walk over the branches; both ends of the tie at a place, in one pass, by what
+//!     it drives and the resistance upstream of it; the search through the free places, with what the held ones give
+//!     summed once;
 //! (b) the delay as in (a), and a whole delay for each index that is refined and for each sizing that is searched;
 //! (c) the delay by one pass without recursion, and so at each index that is refined; the search through all places,
 //!     with the loads and the delay so far carried along.
@@ -33,11 +34,53 @@ pub struct Links {
     next: [usize; SEGMENTS],
 }
 
-/// The end of a tie that refining answers.
+/// The end of a tie that refining takes.
 #[derive(Clone, Copy, PartialEq, Eq)]
 pub enum Side {
     Below,
     Above,
+}
+
+/// The smallest and the largest of the indices that cost least, and what they cost.
+#[derive(Clone, Copy)]
+struct Tie {
+    lowest: u8,
+    highest: u8,
+    cost: u64,
+}
+
+impl Tie {
+    /// Both ends among the indices from `low` to `high`, in one pass.
+    #[inline(always)]
+    fn among(low: u8, high: u8, mut cost: impl FnMut(u8) -> u64) -> Tie {
+        let mut k = low;
+        let mut tie = Tie {
+            lowest: k,
+            highest: k,
+            cost: cost(k),
+        };
+        while k < high {
+            k += 1;
+            let cost = cost(k);
+            if cost < tie.cost {
+                tie = Tie {
+                    lowest: k,
+                    highest: k,
+                    cost,
+                };
+            } else if cost == tie.cost {
+                tie.highest = k;
+            }
+        }
+        tie
+    }
+
+    fn end(self, side: Side) -> u8 {
+        match side {
+            Side::Below => self.lowest,
+            Side::Above => self.highest,
+        }
+    }
 }
 
 /// How to go.
@@ -274,21 +317,12 @@ impl Net<'_> {
         sizes[1..].iter().map(|&k| word(&self.sizes[usize::from(k)], 8)).sum()
     }
 
-    /// Puts the best index at a place, the rest held.
-    fn settle<const PASS: bool>(&self, links: &Links, x: &mut [u8], p: usize, side: Side) {
-        let (low, high) = (self.lowest(p), self.highest(p));
-        x[p] = low;
-        let mut best = low;
-        let mut least = self.delay::<PASS>(links, x).0;
-        for k in low + 1..=high {
+    /// The tie at a place, the rest held, by the whole delay at each index; its cost is the delay. x is left at some index.
+    fn settle<const PASS: bool>(&self, links: &Links, x: &mut [u8], p: usize) -> Tie {
+        Tie::among(self.lowest(p), self.highest(p), |k| {
             x[p] = k;
-            let d = self.delay::<PASS>(links, x).0;
-            if d < least || (d == least && side == Side::Above) {
-                least = d;
-                best = k;
-            }
-        }
-        x[p] = best;
+            self.delay::<PASS>(links, x).0
+        })
     }
 
     /// The bound from a side, by sweeps until nothing changes.
@@ -304,7 +338,7 @@ impl Net<'_> {
             let mut changed = false;
             for p in 0..x.len() {
                 let before = x[p];
-                self.settle::<PASS>(links, x, p, side);
+                x[p] = self.settle::<PASS>(links, x, p).end(side);
                 changed |= x[p] != before;
             }
             if !changed {
@@ -460,27 +494,14 @@ impl Sums {
         };
     }
 
-    /// The best index of a place, the rest held.
-    fn settled(&self, net: &Net, p: usize, side: Side) -> u8 {
+    /// The tie at a place, the rest held.
+    fn settled(&self, net: &Net, p: usize) -> Tie {
         let (weight, driven, upstream) = (self.weights[p], self.driven[p], self.upstream[p]);
         let length = net.length(p);
-        let tie = u64::from(side == Side::Above);
-        let value = |k| {
+        Tie::among(net.lowest(p), net.highest(p), |k| {
             let step = net.step(weight, length, k, driven);
             step.delay + upstream * step.load
-        };
-        let (mut k, high) = (net.lowest(p), net.highest(p));
-        let mut best = k;
-        let mut least = value(k);
-        while k < high {
-            k += 1;
-            let d = value(k);
-            if d < least + tie {
-                least = d;
-                best = k;
-            }
-        }
-        best
+        })
     }
 
     /// The bound from a side, by sweeps until nothing changes.
@@ -493,7 +514,7 @@ impl Sums {
             let mut changed = false;
             for p in 0..x.len() {
                 self.go_upstream(net, x, x, p);
-                let best = self.settled(net, p, side);
+                let best = self.settled(net, p).end(side);
                 changed |= x[p] != best;
                 x[p] = best;
             }
@@ -726,9 +747,11 @@ pub fn measure_fastest(job: &[u8], sizing: &[u8]) -> Result<(u64, u64), usize> {
     measure_by::<true>(job, sizing)
 }
 
-/// The best index at a place, or the number of the first question that fails.
-#[cfg(test)]
-pub fn refine(job: &[u8], sizing: &[u8], place: usize, side: Side) -> Result<u8, usize> {
+/// Both ends of the tie at a place, and the delay that either reaches.
+pub type Refined = (u8, u8, u64);
+
+/// Refines, or tells the number of the first question that fails.
+fn refine_by(job: &[u8], sizing: &[u8], place: usize, way: Way) -> Result<Refined, usize> {
     let mut links = Links::new();
     let net = check(job, &mut links)?;
     check_sizing(&net, sizing)?;
@@ -739,8 +762,42 @@ pub fn refine(job: &[u8], sizing: &[u8], place: usize, side: Side) -> Result<u8,
     let mut held = [0; PLACES];
     let x = &mut held[..places];
     x.copy_from_slice(&sizing[..places]);
-    net.settle::<false>(&links, x, place, side);
-    Ok(x[place])
+    let tie = match way {
+        Way::AsLibrary => {
+            let mut sums = Sums::new(&net, &links);
+            sums.hold(&net, x, x);
+            for p in 0..=place {
+                sums.go_upstream(&net, x, x, p);
+            }
+            let tie = sums.settled(&net, place);
+            x[place] = tie.lowest;
+            Tie {
+                cost: net.delay::<false>(&links, x).0,
+                ..tie
+            }
+        }
+        Way::WholeDelays => net.settle::<false>(&links, x, place),
+        Way::Fastest => net.settle::<true>(&links, x, place),
+    };
+    Ok((tie.lowest, tie.highest, tie.cost))
+}
+
+/// Refines as (a).
+#[inline(never)]
+pub fn refine(job: &[u8], sizing: &[u8], place: usize) -> Result<Refined, usize> {
+    refine_by(job, sizing, place, Way::AsLibrary)
+}
+
+/// Refines as (b).
+#[inline(never)]
+pub fn refine_by_whole_delays(job: &[u8], sizing: &[u8], place: usize) -> Result<Refined, usize> {
+    refine_by(job, sizing, place, Way::WholeDelays)
+}
+
+/// Refines as (c).
+#[inline(never)]
+pub fn refine_fastest(job: &[u8], sizing: &[u8], place: usize) -> Result<Refined, usize> {
+    refine_by(job, sizing, place, Way::Fastest)
 }
 
 fn room(lower: &[u8], upper: &[u8]) -> Option<u64> {

@@ -18,6 +18,17 @@ fn assert_same_reply(job: &[u8], name: &str) {
     assert_eq!(replies, [replies[0]; 4], "{name}");
 }
 
+/// Both ends of the tie at a place and the delay reached, of all four.
+fn assert_same_ends(job: &[u8], sizing: &[u8], place: usize, name: &str) {
+    let refined = [
+        library::refine(job, sizing, place),
+        plain::refine(job, sizing, place),
+        plain::refine_by_whole_delays(job, sizing, place),
+        plain::refine_fastest(job, sizing, place),
+    ];
+    assert_eq!(refined, [refined[0]; 4], "{name}, place {place}");
+}
+
 #[test]
 fn replies_are_the_same_on_all_jobs() {
     for case in cases::all() {
@@ -35,6 +46,7 @@ fn every_case_is_answered() {
                 assert_eq!(figures, plain::measure(&case.job, sizing), "{}", case.name);
                 assert_eq!(figures, plain::measure_fastest(&case.job, sizing), "{}", case.name);
             }
+            Work::Refine { sizing, place } => assert!(library::refine(&case.job, sizing, *place).is_ok(), "{}", case.name),
             Work::Size => assert_eq!(library::size(&case.job, &mut [0; REPLY]), 0, "{}", case.name),
         }
     }
@@ -55,16 +67,11 @@ fn refining_is_the_same_at_every_place() {
         let (lower, upper) = plain::bounds(&case.job).expect("every job passes the questions");
         for sizing in [&lower, &upper] {
             for place in 0..=lower.len() {
-                for (side, above) in [(plain::Side::Below, false), (plain::Side::Above, true)] {
-                    let best = plain::refine(&case.job, sizing, place, side);
-                    assert_eq!(
-                        best,
-                        library::refine(&case.job, sizing, place, above),
-                        "{}, place {place}",
-                        case.name
-                    );
-                }
+                assert_same_ends(&case.job, sizing, place, &case.name);
             }
+        }
+        if let Work::Refine { sizing, place } = &case.work {
+            assert_same_ends(&case.job, sizing, *place, &case.name);
         }
     }
 }

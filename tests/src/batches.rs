@@ -5,16 +5,23 @@ use std::collections::BTreeMap;
 use crate::calls::{Call, expected};
 use crate::damage::damage;
 use crate::generate::{
-    allowed_sizing, any_place, any_reply, any_side, any_sizing, large_plan, marked, roomy_plan, small_plan, tied_star,
-    weightless_plan,
+    allowed_sizing, any_place, any_reply, any_sizing, large_plan, marked, roomy_plan, small_plan, tied_star, weightless_plan,
 };
 use crate::limits::{largest_plans, limits};
 use crate::plan::Plan;
+use crate::questions::read;
 use crate::random::Random;
+use crate::reference::{Refined, refine};
 use crate::worked;
 
 /// The most allowed sizings of a small job.
 pub const MOST_ALLOWED: u128 = 400;
+
+/// What refine meets: a place with one index, one best index of several, several best ones, and several at the delay 0.
+pub const ONE_INDEX: &str = "refine at one index";
+pub const ONE_BEST: &str = "refine with one best index";
+pub const TIE: &str = "refine with a tie";
+pub const TIE_AT_0: &str = "refine with a tie at 0";
 
 /// How often each operation returned each number.
 pub type Counts = BTreeMap<(&'static str, u64), usize>;
@@ -27,6 +34,26 @@ pub fn operation(call: &Call) -> &'static str {
         Call::Choose { .. } => "choose",
         Call::Size { .. } => "size",
     }
+}
+
+/// What a refine that is answered meets at its place; a tie counts apart where all sizings have the delay 0.
+pub fn met(call: &Call) -> Option<&'static str> {
+    let Call::Refine { job, sizing, place, .. } = call else {
+        return None;
+    };
+    let Refined { number: 0, tie } = refine(job, sizing, *place) else {
+        return None;
+    };
+    let range = &read(job).expect("a job that is answered").ranges[*place];
+    Some(if range.lowest == range.highest {
+        ONE_INDEX
+    } else if tie.lowest == tie.highest {
+        ONE_BEST
+    } else if tie.delay == 0 {
+        TIE_AT_0
+    } else {
+        TIE
+    })
 }
 
 /// Counts the numbers that the reference expects of calls.
@@ -48,14 +75,14 @@ fn a_measure(random: &mut Random, job: &[u8], plan: &Plan) -> Call {
 
 /// A refine of a job with a sizing made for a plan.
 fn a_refine(random: &mut Random, job: &[u8], plan: &Plan) -> Call {
-    let index = marked(random.pick(&[1, 1, 1, 2, 9, 3]));
+    let length = random.pick(&[10, 10, 10, 11, 18, 12]);
     let sizing = any_sizing(random, plan);
+    let place = any_place(random, plan.places());
     Call::Refine {
         job: job.to_vec(),
         sizing,
-        place: any_place(random, plan.places()),
-        side: any_side(random),
-        index,
+        place,
+        ends: vec![random.byte(); length],
     }
 }
 
@@ -120,21 +147,18 @@ pub fn damaged_calls(random: &mut Random, most: u128) -> Vec<Call> {
     one_of_each(random, &job, &plan)
 }
 
-/// The calls for one job of many segments: refine at every place from both sides, and the rest.
+/// The calls for one job of many segments: refine at every place, and the rest.
 pub fn large_calls(random: &mut Random) -> Vec<Call> {
     let plan = large_plan(random);
     let job = plan.bytes();
     let mut calls = one_of_each(random, &job, &plan);
     calls.push(a_roomy_size(&job));
     for place in 0..plan.places() {
-        let sizing = allowed_sizing(random, &plan);
-        let side = (place % 2) as u8;
         calls.push(Call::Refine {
             job: job.clone(),
-            sizing,
+            sizing: allowed_sizing(random, &plan),
             place,
-            side,
-            index: marked(1),
+            ends: marked(10),
         });
     }
     calls
@@ -146,7 +170,7 @@ pub fn limit_calls() -> Vec<Call> {
     let mut calls = Vec::new();
     for limit in limits() {
         let sizing = vec![0; 70];
-        let (job, index) = (limit.job, marked(1));
+        let job = limit.job;
         calls.push(Call::Measure {
             job: job.clone(),
             sizing: sizing.clone(),
@@ -156,8 +180,7 @@ pub fn limit_calls() -> Vec<Call> {
             job: job.clone(),
             sizing: sizing.clone(),
             place: random.below(6),
-            side: 1,
-            index,
+            ends: marked(10),
         });
         calls.push(Call::Choose {
             job: job.clone(),
@@ -217,7 +240,7 @@ pub fn room_calls() -> Vec<Call> {
         .collect()
 }
 
-/// The calls for the worked jobs: every sizing, every place, both sides, every pair.
+/// The calls for the worked jobs: every sizing, every place, every pair.
 pub fn worked_calls() -> Vec<Call> {
     let mut calls = Vec::new();
     for (_, plan) in worked::named() {
@@ -231,15 +254,12 @@ pub fn worked_calls() -> Vec<Call> {
                 figures: marked(16),
             });
             for place in 0..=plan.places() {
-                for side in [0, 1] {
-                    calls.push(Call::Refine {
-                        job: job.clone(),
-                        sizing: x.clone(),
-                        place,
-                        side,
-                        index: marked(1),
-                    });
-                }
+                calls.push(Call::Refine {
+                    job: job.clone(),
+                    sizing: x.clone(),
+                    place,
+                    ends: marked(10),
+                });
             }
             calls.extend(sizings.iter().map(|y| Call::Choose {
                 job: job.clone(),

@@ -1,9 +1,10 @@
 //! Calls of the four operations: what the reference expects of them, and their forms as text and as frames.
 
-use crate::reference::{Choice, Side, choose, chosen, measure, refine, size};
+use crate::reference::{Choice, Refined, Tie, choose, chosen, measure, refine, size};
 use crate::reference_bounds::way_for;
 
-/// A call with all its arguments; `figures`, `index` and `reply` hold what was there before the answer.
+/// A call with all its arguments; `figures`, `ends` and `reply` hold what was there before the answer. The first ten bytes of
+/// `ends` are the two ends of a tie and the eight bytes of the delay.
 #[derive(Clone, PartialEq, Eq, Debug)]
 pub enum Call {
     Measure {
@@ -15,8 +16,7 @@ pub enum Call {
         job: Vec<u8>,
         sizing: Vec<u8>,
         place: usize,
-        side: u8,
-        index: Vec<u8>,
+        ends: Vec<u8>,
     },
     Choose {
         job: Vec<u8>,
@@ -34,11 +34,6 @@ pub enum Call {
 pub struct Outcome {
     pub number: u64,
     pub buffer: Vec<u8>,
-}
-
-/// The side that a number of the interface means.
-pub fn side_of(side: u8) -> Side {
-    if side == 0 { Side::Below } else { Side::Above }
 }
 
 /// The number that the interface returns for a choice.
@@ -59,10 +54,14 @@ fn overwritten(buffer: &[u8], number: u64, answer: &[u8]) -> Vec<u8> {
     after
 }
 
-/// The sixteen bytes of a delay and a load, lowest first.
-fn figure_bytes(delay: u128, load: u128) -> Vec<u8> {
-    let bytes = |figure: u128| u64::try_from(figure).expect("a figure below 2^64").to_le_bytes();
-    [bytes(delay), bytes(load)].concat()
+/// The eight bytes of a figure, lowest first.
+fn figure_bytes(figure: u128) -> [u8; 8] {
+    u64::try_from(figure).expect("a figure below 2^64").to_le_bytes()
+}
+
+/// The ten bytes of a tie: its ends and its delay.
+fn tie_bytes(tie: Tie) -> Vec<u8> {
+    [&[tie.lowest, tie.highest][..], &figure_bytes(tie.delay)].concat()
 }
 
 /// What the reference expects of a call through the C interface.
@@ -70,7 +69,8 @@ pub fn expected(call: &Call) -> Outcome {
     match call {
         Call::Measure { job, sizing, figures } => {
             let answer = measure(job, sizing);
-            let buffer = overwritten(figures, answer.number, &figure_bytes(answer.delay, answer.load));
+            let bytes = [figure_bytes(answer.delay), figure_bytes(answer.load)].concat();
+            let buffer = overwritten(figures, answer.number, &bytes);
             Outcome {
                 number: answer.number,
                 buffer,
@@ -80,13 +80,12 @@ pub fn expected(call: &Call) -> Outcome {
             job,
             sizing,
             place,
-            side,
-            index,
+            ends,
         } => {
-            let answer = refine(job, sizing, *place, side_of(*side));
+            let answer = refine(job, sizing, *place);
             Outcome {
                 number: answer.number,
-                buffer: overwritten(index, answer.number, &[answer.index]),
+                buffer: overwritten(ends, answer.number, &tie_bytes(answer.tie)),
             }
         }
         Call::Choose { job, x, y } => Outcome {
@@ -130,10 +129,9 @@ impl Call {
                 job,
                 sizing,
                 place,
-                side,
-                index,
+                ends,
             } => {
-                format!("refine {} {} {place} {side} {}", word(job), word(sizing), word(index))
+                format!("refine {} {} {place} {}", word(job), word(sizing), word(ends))
             }
             Call::Choose { job, x, y } => format!("choose {} {} {}", word(job), word(x), word(y)),
             Call::Size { job, reply } => format!("size {} {}", word(job), word(reply)),
@@ -154,8 +152,7 @@ impl Call {
                 job: bytes(1),
                 sizing: bytes(2),
                 place: words[3].parse().expect("a place"),
-                side: words[4].parse().expect("a side"),
-                index: bytes(5),
+                ends: bytes(4),
             },
             "choose" => Call::Choose {
                 job: bytes(1),
@@ -170,19 +167,13 @@ impl Call {
         }
     }
 
-    /// The call as a frame: the operation's byte, each slice with its length in two bytes, place and side in one each.
+    /// The call as a frame: the operation's byte, each slice with its length in two bytes, a place in one.
     pub fn frame(&self) -> Vec<u8> {
         match self {
             Call::Measure { job, sizing, .. } => [&[1][..], &slice(job), &slice(sizing)].concat(),
-            Call::Refine {
-                job,
-                sizing,
-                place,
-                side,
-                ..
-            } => {
+            Call::Refine { job, sizing, place, .. } => {
                 let place = u8::try_from(*place).expect("a place of one byte");
-                [&[2][..], &slice(job), &slice(sizing), &[place, *side]].concat()
+                [&[2][..], &slice(job), &slice(sizing), &[place]].concat()
             }
             Call::Choose { job, x, y } => [&[3][..], &slice(job), &slice(x), &slice(y)].concat(),
             Call::Size { job, reply } => [&[4][..], &slice(job), &slice(reply)].concat(),
@@ -196,15 +187,9 @@ impl Call {
                 let answer = measure(job, sizing);
                 format!("measure {} {} {}", answer.number, answer.delay, answer.load)
             }
-            Call::Refine {
-                job,
-                sizing,
-                place,
-                side,
-                ..
-            } => {
-                let answer = refine(job, sizing, *place, side_of(*side));
-                format!("refine {} {}", answer.number, answer.index)
+            Call::Refine { job, sizing, place, .. } => {
+                let Refined { number, tie } = refine(job, sizing, *place);
+                format!("refine {number} {} {} {}", tie.lowest, tie.highest, tie.delay)
             }
             Call::Choose { job, x, y } => with_bytes(format!("choose {}", chosen(job, x, y).len()), chosen(job, x, y)),
             Call::Size { .. } => {

@@ -391,11 +391,6 @@ pub fn any_place(random: &mut Random, places: usize) -> usize {
     if random.once_in(5) { random.pick(&outside) } else { inside }
 }
 
-/// A side as the interface takes it: 0 is below, all else above.
-pub fn any_side(random: &mut Random) -> u8 {
-    random.pick(&[0, 0, 0, 1, 1, 2, 128, 255])
-}
-
 /// A reply buffer: exact, one byte short, empty, too short, or longer.
 pub fn any_reply(random: &mut Random, places: usize) -> Vec<u8> {
     let exact = 8 * (1 + places);

@@ -7,7 +7,6 @@ use crate::calls::{Call, Outcome};
 /// What the parameters hold before a call, so that a refusal that writes is seen.
 const DELAY_BEFORE: u64 = 0x0123_4567_89ab_cdef;
 const LOAD_BEFORE: u64 = 0xfedc_ba98_7654_3210;
-const BEST_BEFORE: u8 = 0xa5;
 
 /// Measures a sizing; with the number 0, delay and load go into the first sixteen bytes of `figures`.
 pub fn measure(job: &[u8], sizing: &[u8], figures: &mut [u8]) -> u64 {
@@ -23,16 +22,25 @@ pub fn measure(job: &[u8], sizing: &[u8], figures: &mut [u8]) -> u64 {
     number as u64
 }
 
-/// Refines a sizing at a place; with the number 0, the best index goes into the first byte of `index`.
-pub fn refine(job: &[u8], sizing: &[u8], place: usize, side: u8, index: &mut [u8]) -> u64 {
-    let mut best = BEST_BEFORE;
-    // SAFETY: every slice's pointer comes with its length, and the index is this function's own.
-    let number = unsafe { numlejka_refine(job.as_ptr(), job.len(), sizing.as_ptr(), sizing.len(), place, side, &mut best) };
-    if number == 0 {
-        index[0] = best;
-    } else {
-        assert_eq!(best, BEST_BEFORE, "a refusal wrote an index");
-    }
+/// Refines a sizing at a place; the first ten bytes of `ends` are what the three parameters hold, before the call and after it.
+pub fn refine(job: &[u8], sizing: &[u8], place: usize, ends: &mut [u8]) -> u64 {
+    let [mut lowest, mut highest] = [ends[0], ends[1]];
+    let mut delay = u64::from_le_bytes(ends[2..10].try_into().expect("eight bytes"));
+    // SAFETY: every slice's pointer comes with its length, and the ends and the delay are this function's own.
+    let number = unsafe {
+        numlejka_refine(
+            job.as_ptr(),
+            job.len(),
+            sizing.as_ptr(),
+            sizing.len(),
+            place,
+            &mut lowest,
+            &mut highest,
+            &mut delay,
+        )
+    };
+    ends[..2].copy_from_slice(&[lowest, highest]);
+    ends[2..10].copy_from_slice(&delay.to_le_bytes());
     number as u64
 }
 
@@ -62,12 +70,11 @@ pub fn run(call: &Call) -> Outcome {
             job,
             sizing,
             place,
-            side,
-            index,
+            ends,
         } => {
-            let mut buffer = index.clone();
+            let mut buffer = ends.clone();
             Outcome {
-                number: refine(job, sizing, *place, *side, &mut buffer),
+                number: refine(job, sizing, *place, &mut buffer),
                 buffer,
             }
         }

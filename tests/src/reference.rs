@@ -5,7 +5,7 @@ use crate::questions::{Net, product, read};
 /// The largest room that is searched.
 pub const MOST_ROOM: u128 = 65_536;
 
-/// The side from which refine breaks a tie.
+/// The side from which a place is refined: the smallest best index is put there from below, the largest from above.
 #[derive(Clone, Copy, PartialEq, Eq, Debug)]
 pub enum Side {
     Below,
@@ -20,11 +20,19 @@ pub struct Measured {
     pub load: u128,
 }
 
-/// What refine answers; the index is 0 where the number is not.
+/// The best indices at a place: the smallest, the largest, and the delay of the sizing with a best one put there.
+#[derive(Clone, Copy, PartialEq, Eq, Debug)]
+pub struct Tie {
+    pub lowest: u8,
+    pub highest: u8,
+    pub delay: u128,
+}
+
+/// What refine answers; a refusal has zeros beside its number.
 #[derive(Clone, Copy, PartialEq, Eq, Debug)]
 pub struct Refined {
     pub number: u64,
-    pub index: u8,
+    pub tie: Tie,
 }
 
 /// Which of the two sizings choose hands back.
@@ -156,27 +164,38 @@ pub fn load_figure(net: &Net, sizing: &[u8]) -> u128 {
     wires(net, sizing).whole_tree + gates
 }
 
-/// The best index at a place, the rest held: the smallest of the best from below, the largest from above.
-pub fn best_index(net: &Net, sizing: &[u8], place: usize, side: Side) -> u8 {
+/// The tie at a place, the rest held: of all allowed indices those that give the smallest delay.
+pub fn tie_at(net: &Net, sizing: &[u8], place: usize) -> Tie {
     let mut tried = sizing[..net.places()].to_vec();
-    let mut best: Option<(u128, u8)> = None;
-    for index in net.ranges[place].lowest..=net.ranges[place].highest {
+    let mut delay_with = |index: u8| {
         tried[place] = index;
-        let delay = scaled_delay(net, &tried);
-        let better = match best {
-            None => true,
-            Some((least, _)) => delay < least || (delay == least && side == Side::Above),
-        };
-        if better {
-            best = Some((delay, index));
-        }
+        scaled_delay(net, &tried)
+    };
+    let delays: Vec<(u8, u128)> = (net.ranges[place].lowest..=net.ranges[place].highest)
+        .map(|index| (index, delay_with(index)))
+        .collect();
+    let delay = delays.iter().map(|(_, delay)| *delay).min().expect("a range holds an index");
+    let best = || delays.iter().filter(|(_, d)| *d == delay).map(|(index, _)| *index);
+    Tie {
+        lowest: best().min().expect("a best index"),
+        highest: best().max().expect("a best index"),
+        delay,
     }
-    best.expect("a range holds an index").1
 }
 
-/// Whether refine leaves a sizing as it is at every place.
+impl Tie {
+    /// The end that refining from a side puts.
+    pub fn end(self, side: Side) -> u8 {
+        match side {
+            Side::Below => self.lowest,
+            Side::Above => self.highest,
+        }
+    }
+}
+
+/// Whether refining from a side leaves a sizing as it is at every place.
 pub fn rests(net: &Net, sizing: &[u8], side: Side) -> bool {
-    (0..net.places()).all(|place| best_index(net, sizing, place, side) == sizing[place])
+    (0..net.places()).all(|place| tie_at(net, sizing, place).end(side) == sizing[place])
 }
 
 /// Every sizing from one to another, place by place, both included.
@@ -222,7 +241,7 @@ pub fn least_of(net: &Net, sizings: &[Vec<u8>]) -> Least {
     }
 }
 
-/// The bounds by their definition: the extremes of all allowed sizings that refine leaves as they are.
+/// The bounds by their definition: the extremes of all allowed sizings that refining leaves as they are.
 pub fn exhaustive_bounds(net: &Net) -> Bounds {
     let allowed = sizings_between(&net.lowest(), &net.highest());
     let resting = |side: Side| allowed.iter().filter(|sizing| rests(net, sizing, side)).collect::<Vec<_>>();
@@ -288,13 +307,21 @@ pub fn measure(job: &[u8], sizing: &[u8]) -> Measured {
 }
 
 /// The operation refine.
-pub fn refine(job: &[u8], sizing: &[u8], place: usize, side: Side) -> Refined {
+pub fn refine(job: &[u8], sizing: &[u8], place: usize) -> Refined {
+    let refused = |number| Refined {
+        number,
+        tie: Tie {
+            lowest: 0,
+            highest: 0,
+            delay: 0,
+        },
+    };
     match read_with_sizings(job, &[sizing]) {
-        Err(number) => Refined { number, index: 0 },
-        Ok(net) if place >= net.places() => Refined { number: 17, index: 0 },
+        Err(number) => refused(number),
+        Ok(net) if place >= net.places() => refused(17),
         Ok(net) => Refined {
             number: 0,
-            index: best_index(&net, sizing, place, side),
+            tie: tie_at(&net, sizing, place),
         },
     }
 }

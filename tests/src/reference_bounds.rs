@@ -1,7 +1,7 @@
 //! A second way to the bounds and the least-delay sizings, for nets with too many allowed sizings to try them all.
 
 use crate::questions::{Net, read};
-use crate::reference::{Bounds, EXHAUSTIVE, Least, Side, Way, best_index, least_of, sizings_between};
+use crate::reference::{Bounds, EXHAUSTIVE, Least, Side, Way, least_of, sizings_between, tie_at};
 
 /// The most allowed sizings that are tried one by one.
 pub const MOST_TRIED: u128 = 2_048;
@@ -18,7 +18,7 @@ pub fn sweep(net: &Net, start: Vec<u8>, side: Side) -> Vec<u8> {
     loop {
         let before = sizing.clone();
         for place in 0..net.places() {
-            sizing[place] = best_index(net, &sizing, place, side);
+            sizing[place] = tie_at(net, &sizing, place).end(side);
         }
         if sizing == before {
             return sizing;

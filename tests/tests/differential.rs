@@ -2,8 +2,8 @@
 #![cfg(feature = "library")]
 
 use numlejka_tests::batches::{
-    Counts, MOST_ALLOWED, damaged_calls, large_calls, largest_calls, limit_calls, operation, room_calls, small_calls,
-    worked_calls,
+    Counts, MOST_ALLOWED, ONE_BEST, ONE_INDEX, TIE, damaged_calls, large_calls, largest_calls, limit_calls, met, operation,
+    room_calls, small_calls, worked_calls,
 };
 use numlejka_tests::calls::{Call, expected, hex};
 use numlejka_tests::interface::run;
@@ -31,33 +31,42 @@ fn compare(counts: &mut Counts, call: &Call) {
         call.text()
     );
     *counts.entry((operation(call), want.number)).or_default() += 1;
+    if let Some(kind) = met(call) {
+        *counts.entry((kind, want.number)).or_default() += 1;
+    }
 }
 
-/// Compares all calls and prints how often each operation gave each number.
-fn compare_all(name: &str, calls: impl Iterator<Item = Call>) {
+/// Compares all calls and prints how often each operation gave each number, and what refine met.
+fn compare_all(name: &str, calls: impl Iterator<Item = Call>) -> Counts {
     let mut counts = Counts::new();
-    calls.for_each(|call| compare(&mut counts, &call));
-    println!("{name}, seed {SEED:#x}: {} calls, {counts:?}", counts.values().sum::<usize>());
+    let mut compared = 0;
+    calls.for_each(|call| {
+        compare(&mut counts, &call);
+        compared += 1;
+    });
+    println!("{name}, seed {SEED:#x}: {compared} calls, {counts:?}");
+    counts
 }
 
-/// Small random jobs over all four operations.
+/// Small random jobs over all four operations, among whose refines each kind of place comes thousands of times.
+fn compare_small(name: &str, mut random: Random) {
+    let calls = (0..SMALL_JOBS).flat_map(|_| small_calls(&mut random, MOST_ALLOWED));
+    let counts = compare_all(name, calls);
+    for kind in [ONE_INDEX, ONE_BEST, TIE] {
+        assert!(counts[&(kind, 0)] >= 2_000, "{kind}");
+    }
+}
+
+/// Small random jobs.
 #[test]
 fn small_jobs() {
-    let mut random = Random::new(21);
-    compare_all(
-        "small jobs",
-        (0..SMALL_JOBS).flat_map(|_| small_calls(&mut random, MOST_ALLOWED)),
-    );
+    compare_small("small jobs", Random::new(21));
 }
 
 /// As many again with other numbers, for the second core.
 #[test]
 fn more_small_jobs() {
-    let mut random = Random::new(22);
-    compare_all(
-        "more small jobs",
-        (0..SMALL_JOBS).flat_map(|_| small_calls(&mut random, MOST_ALLOWED)),
-    );
+    compare_small("more small jobs", Random::new(22));
 }
 
 /// Jobs with one to three damages over all four operations.
@@ -95,7 +104,7 @@ fn jobs_around_the_largest_room() {
     compare_all("jobs around the largest room", room_calls().into_iter());
 }
 
-/// The worked jobs: every sizing, place, side and pair.
+/// The worked jobs: every sizing, place and pair.
 #[test]
 fn worked_jobs() {
     compare_all("worked jobs", worked_calls().into_iter());

@@ -8,8 +8,8 @@ use numlejka_tests::plan::Plan;
 use numlejka_tests::questions::{Net, first_no, read};
 use numlejka_tests::random::{Random, SEED};
 use numlejka_tests::reference::{
-    Bounds, Choice, EXHAUSTIVE, Least, Side, choose, chosen, exhaustive_bounds, exhaustive_least, measure, refine, rests, room,
-    scaled_delay, size,
+    Bounds, Choice, EXHAUSTIVE, Least, Side, Tie, choose, chosen, exhaustive_bounds, exhaustive_least, measure, refine, rests,
+    room, scaled_delay, size,
 };
 use numlejka_tests::reference_bounds::{SWEPT, least_between, swept_bounds};
 use numlejka_tests::worked::{clock, j1, j2, j3, j4, j5, refused, weightless};
@@ -31,6 +31,11 @@ fn least(plan: &Plan) -> (u128, Vec<u8>, Vec<u8>) {
     let net = net_of(plan);
     let Least { delay, lean, wide } = exhaustive_least(&net, &exhaustive_bounds(&net));
     (delay, lean, wide)
+}
+
+/// The tie of two ends and a delay.
+fn tie(lowest: u8, highest: u8, delay: u128) -> Tie {
+    Tie { lowest, highest, delay }
 }
 
 /// J1: delays 208 and 206, lean and wide equal.
@@ -57,7 +62,8 @@ fn j3_has_no_weight() {
     assert_eq!(least(&j3()), (0, vec![0, 0], vec![0, 1]));
 }
 
-/// J4: its four delays, its load, refine from both sides, choose, and the reply byte by byte.
+/// J4: its four delays, its load, refine with a tie, with one best index and at a place with one index, choose, and the reply
+/// byte by byte.
 #[test]
 fn j4_measures_refines_and_sizes() {
     let job = j4().bytes();
@@ -66,8 +72,9 @@ fn j4_measures_refines_and_sizes() {
     assert_eq!(delay(&j4(), &[0, 1, 0]), 270);
     assert_eq!(delay(&j4(), &[0, 1, 1]), 262);
     assert_eq!(measure(&job, &[0, 0, 0]).load, 9);
-    assert_eq!(refine(&job, &[0, 0, 1], 1, Side::Below).index, 0);
-    assert_eq!(refine(&job, &[0, 0, 1], 1, Side::Above).index, 1);
+    assert_eq!(refine(&job, &[0, 0, 1], 1).tie, tie(0, 1, 262));
+    assert_eq!(refine(&job, &[0, 1, 0], 1).tie, tie(0, 0, 260));
+    assert_eq!(refine(&job, &[0, 1, 0], 0).tie, tie(0, 0, 270));
     assert_eq!(choose(&job, &[0, 0, 1], &[0, 1, 1]), Choice::First);
     assert_eq!(chosen(&job, &[0, 1, 0, 77], &[0, 0, 0, 88]), [0, 0, 0]);
     let mut reply = marked(35);
@@ -97,7 +104,7 @@ fn the_refused_jobs_get_their_numbers() {
     for (job, number) in refused() {
         assert_eq!(first_no(&job), number);
         assert_eq!(measure(&job, &[0; 70]).number, number);
-        assert_eq!(refine(&job, &[0; 70], 0, Side::Below).number, number);
+        assert_eq!(refine(&job, &[0; 70], 0).number, number);
         assert_eq!(choose(&job, &[0; 70], &[0; 70]), Choice::None);
         let mut reply = marked(600);
         assert_eq!(size(&job, &mut reply, &EXHAUSTIVE), number);
@@ -147,9 +154,9 @@ fn short_sizings_and_far_places_get_15_16_17() {
     assert_eq!(measure(&job, &[0, 0]).number, 15);
     assert_eq!(measure(&job, &[1, 0, 0]).number, 16);
     assert_eq!(measure(&job, &[0, 2, 0]).number, 16);
-    assert_eq!(refine(&job, &[0, 2, 0], 3, Side::Below).number, 16);
-    assert_eq!(refine(&job, &[0, 0, 0], 3, Side::Below).number, 17);
-    assert_eq!(refine(&job, &[0, 0, 0, 9], 2, Side::Below).number, 0);
+    assert_eq!(refine(&job, &[0, 2, 0], 3).number, 16);
+    assert_eq!(refine(&job, &[0, 0, 0], 3).number, 17);
+    assert_eq!(refine(&job, &[0, 0, 0, 9], 2).number, 0);
     assert_eq!(choose(&job, &[0, 0, 0], &[0, 0]), Choice::None);
     assert_eq!(choose(&job, &[0, 0, 2], &[0, 0, 0]), Choice::None);
 }

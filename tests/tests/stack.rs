@@ -83,7 +83,7 @@ fn deepest() -> Plan {
 fn a_call_needs_little_stack() {
     let job = deepest().bytes();
     let (x, y) = ([0; 68], [0; 68]);
-    let (mut figures, mut index, mut reply) = ([0; 16], [0; 1], [0; 552]);
+    let (mut figures, mut ends, mut reply) = ([0; 16], [0; 10], [0; 552]);
     let (_, own) = painted(&mut || 0);
     let check = |name: &str, wanted: u64, call: &mut dyn FnMut() -> u64| {
         let (number, used) = painted(call);
@@ -92,8 +92,8 @@ fn a_call_needs_little_stack() {
         assert!(used - own <= ENOUGH);
     };
     check("measure", 0, &mut || measure(&job, &x, &mut figures));
-    check("refine at the first place", 0, &mut || refine(&job, &x, 0, 0, &mut index));
-    check("refine at the last place", 0, &mut || refine(&job, &x, 67, 1, &mut index));
+    check("refine at the first place", 0, &mut || refine(&job, &x, 0, &mut ends));
+    check("refine at the last place", 0, &mut || refine(&job, &x, 67, &mut ends));
     check("choose", 1, &mut || choose(&job, &x, &y));
     check("size", 0, &mut || size(&job, &mut reply));
 }

@@ -16,8 +16,9 @@ extern "C" {
         sizing: *const u8,
         sizing_length: usize,
         place: usize,
-        above: u8,
-        best: *mut u8,
+        lowest: *mut u8,
+        highest: *mut u8,
+        delay: *mut u64,
     ) -> usize;
 
     pub fn numlejka_choose(

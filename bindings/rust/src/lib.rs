@@ -33,11 +33,13 @@ pub struct Figures {
     pub load: u64,
 }
 
-/// The end of a tie that [`refine`] answers: from below the smallest best index, from above the largest.
+/// The best indices at a place, the rest of a sizing held: the smallest, the largest, and the scaled delay of the sizing
+/// with either of them put there. They are equal exactly when one index is best; an index between them need not be.
 #[derive(Clone, Copy, Debug, PartialEq, Eq)]
-pub enum Side {
-    Below,
-    Above,
+pub struct Refined {
+    pub lowest: u8,
+    pub highest: u8,
+    pub delay: u64,
 }
 
 /// The number of the first question whose answer is no. The number 13 is not used: the bounds never cross, so the question
@@ -146,10 +148,15 @@ pub fn measure(job: &[u8], sizing: &[u8]) -> Result<Figures, Refusal> {
     answered(number, figures)
 }
 
-/// The best index at a place, the rest of the sizing held.
-pub fn refine(job: &[u8], sizing: &[u8], place: usize, side: Side) -> Result<u8, Refusal> {
-    let mut best = 0;
-    // SAFETY: each pointer has the length of its slice beside it, and the index is this function's own.
+/// The smallest and the largest best index at a place, the rest of the sizing held, and the scaled delay that either
+/// reaches.
+pub fn refine(job: &[u8], sizing: &[u8], place: usize) -> Result<Refined, Refusal> {
+    let mut refined = Refined {
+        lowest: 0,
+        highest: 0,
+        delay: 0,
+    };
+    // SAFETY: each pointer has the length of its slice beside it, and the ends and the delay are this function's own.
     let number = unsafe {
         c::numlejka_refine(
             job.as_ptr(),
@@ -157,11 +164,12 @@ pub fn refine(job: &[u8], sizing: &[u8], place: usize, side: Side) -> Result<u8,
             sizing.as_ptr(),
             sizing.len(),
             place,
-            (side == Side::Above) as u8,
-            &mut best,
+            &mut refined.lowest,
+            &mut refined.highest,
+            &mut refined.delay,
         )
     };
-    answered(number, best)
+    answered(number, refined)
 }
 
 /// The first P bytes of the one of two sizings that has the smaller delay, at a tie of the first; `None` where the job

@@ -148,9 +148,14 @@ fn later_bytes_are_not_read() {
 }
 
 #[test]
-fn best_index_from_both_sides() {
-    assert_eq!(refine(&j4(), &[0, 0, 1], 1, Side::Below), Ok(0));
-    assert_eq!(refine(&j4(), &[0, 0, 1], 1, Side::Above), Ok(1));
+fn both_ends_of_a_tie() {
+    let best = |sizing: &[u8], place| {
+        let refined = refine(&j4(), sizing, place).unwrap();
+        (refined.lowest, refined.highest, refined.delay)
+    };
+    assert_eq!(best(&[0, 0, 1], 1), (0, 1, 262));
+    assert_eq!(best(&[0, 1, 0], 1), (0, 0, 260));
+    assert_eq!(best(&[0, 1, 0], 0), (0, 0, 270));
 }
 
 #[test]
@@ -204,10 +209,9 @@ fn refusals() {
     assert_eq!(size(&bad), refused(5));
     assert_eq!(measure(&j1(), &[0]).unwrap_err().number, 15);
     assert_eq!(measure(&j1(), &[0, 2]).unwrap_err().number, 16);
-    assert_eq!(
-        refine(&j1(), &[0, 0], 2, Side::Below).unwrap_err().number,
-        17
-    );
+    assert_eq!(refine(&j1(), &[0], 0).unwrap_err().number, 15);
+    assert_eq!(refine(&j1(), &[0, 2], 2).unwrap_err().number, 16);
+    assert_eq!(refine(&j1(), &[0, 0], 2).unwrap_err().number, 17);
 }
 
 #[test]

@@ -5,32 +5,31 @@ use mathlib.Core.List.{List}
 use Prim.Native.Nat.{ℕ, suc, _+_, _≤_, _<_}
 use native.Mathlib.Omega.{arith}
 use lib.Dec.{eqb}
-use lib.ListN.{length, set, length-set}
-use lib.Seq.{set-getD, getD-set-other}
+use lib.ListN.{length, set}
+use lib.Seq.{set-getD, getD-set-same, getD-set-other}
 use borrow.Author.Count.{below-more}
 use borrow.Author.Tests.{eqb-true, eqb-false}
 use Rattle.lattice.specs.Side.{Side}
 use Rattle.lattice.specs.Lists.{at}
 use Rattle.lattice.specs.Space.{Space, Lattice, Submodular, within}
-use Rattle.lattice.specs.Refine.{bound, refine, slack, Approaching}
+use Rattle.lattice.specs.Refine.{best, bound, refine, slack, Approaching}
 use Rattle.lattice.proofs.Refining.{at-set, approaching-step, approaching-stop}
 use Rattle.lattice.proofs.Theorems.{approaching-slack}
 use Rattle.net.specs.Net.{Net, places}
 use Rattle.net.specs.Delay.{delay}
 use Rattle.net.specs.Places.{drivenLoad}
 use Rattle.net.specs.Sizings.{allowed}
-use Rattle.net.specs.Checked.{Ordered}
+use Rattle.net.specs.Checked.{Ordered, Limited}
 use Rattle.net.proofs.Places.{driven-reads}
 use Rattle.net.proofs.Dominance.{allowed-lattice, delay-submodular}
+use Rattle.place.specs.Partial.{WeightsFrom}
 use Rattle.place.specs.Held.{hangsAt, before, onward, DrivenFrom, UpstreamTo}
 use Rattle.place.proofs.Driving.{driven-all}
 use Rattle.place.proofs.Upstream.{before-start, before-step, onward-reads, upstream-reads}
+use Rattle.refine.specs.declared.Ends.{Ends}
+use Rattle.refine.specs.Settled.{endOf, Settled, EndsAt}
+use Rattle.refine.proofs.Settling.{figures-small, settled-ends}
 use Rattle.bounds.specs.Sweep.{Swept}
-
--- a step keeps the length
-pub refined-long : (s : Side) (sp : Space) (D : List ℕ → ℕ) (x y : List ℕ) (p : ℕ) → y ≡ refine s sp D x p → length y ≡ length x
-unfolding refine
-refined-long s sp D x y p e = ap length e ∙ length-set x p _
 
 module _ {s : Side} {sp : Space} {D : List ℕ → ℕ} where
   pub swept-start : (x : List ℕ) → Approaching s sp D x → Swept s sp D x 0 x false
@@ -41,26 +40,31 @@ module _ {s : Side} {sp : Space} {D : List ℕ → ℕ} where
   changed x₀ n x a l = record { approaching = a; closer = λ e. l; same = λ e. absurd (true≢false e); still = λ e. absurd (true≢false e) }
 
 module _ {sp : Space} {D : List ℕ → ℕ} (la : Lattice sp) (sub : Submodular sp D) (s : Side) where
-  -- where the index of a place stays, the sizing stays
-  stays : (x : List ℕ) → Approaching s sp D x → (p : ℕ) → p < sp .places → at (refine s sp D x p) p ≡ at x p → refine s sp D x p ≡ x
+  -- one place more, with the index b
+  pub swept-step : (x₀ x : List ℕ) (p b : ℕ) (c : Bool) → Swept s sp D x₀ p x c → p < sp .places → b ≡ best s sp D x p
+      → Swept s sp D x₀ (p + 1) (set x p b) (c || not (eqb b (at x p)))
   unfolding refine
-  stays x a p h e = ap (λ v. set x p v) (sym (at-set la x (a .allowed) p h _) ∙ e) ∙ set-getD x p 0
-
-  -- one place more
-  pub swept-step : (x₀ x y : List ℕ) (p : ℕ) (c : Bool) → Swept s sp D x₀ p x c → p < sp .places → y ≡ refine s sp D x p
-      → Swept s sp D x₀ (p + 1) y (c || not (eqb (at y p) (at x p)))
-  swept-step x₀ x y p c i h e = go c i (eqb (at y p) (at x p)) refl
+  swept-step x₀ x p b c i h e = go c i (eqb b (at x p)) refl
     where
+      y : List ℕ
+      y = set x p b
+
+      stepped : y ≡ refine s sp D x p
+      stepped = ap (λ v. set x p v) e
+
       a : Approaching s sp D y
-      a = rw e (approaching-step la sub s x (i .approaching) p h)
+      a = rw stepped (approaching-step la sub s x (i .approaching) p h)
 
-      kept : eqb (at y p) (at x p) ≡ true → y ≡ x
-      kept f = e ∙ stays x (i .approaching) p h (ap (λ z. at z p) (sym e) ∙ eqb-true _ _ f)
+      kept : eqb b (at x p) ≡ true → y ≡ x
+      kept f = ap (λ v. set x p v) (eqb-true b (at x p) f) ∙ set-getD x p 0
 
-      moved : eqb (at y p) (at x p) ≡ false → slack s sp y < slack s sp x
-      moved f = rw e (approaching-slack la sub s x (i .approaching) p h (λ g. eqb-false (at y p) (at x p) f (ap (λ z. at z p) (e ∙ g))))
+      moved : eqb b (at x p) ≡ false → slack s sp y < slack s sp x
+      moved f =
+          rw stepped
+          (approaching-slack la sub s x (i .approaching) p h
+          (λ g. eqb-false b (at x p) f (sym (at-set la x (i .approaching .allowed) p h b) ∙ ap (λ z. at z p) (stepped ∙ g))))
 
-      go : (d : Bool) → Swept s sp D x₀ p x d → (b : Bool) → eqb (at y p) (at x p) ≡ b → Swept s sp D x₀ (p + 1) y (d || not b)
+      go : (d : Bool) → Swept s sp D x₀ p x d → (t : Bool) → eqb b (at x p) ≡ t → Swept s sp D x₀ (p + 1) y (d || not t)
       go true j true f = changed x₀ (p + 1) y a (rw (kept f) (j .closer refl))
       go true j false f = changed x₀ (p + 1) y a (omega (arith, moved f, j .closer refl))
       go false j true f =
@@ -68,9 +72,9 @@ module _ {sp : Space} {D : List ℕ → ℕ} (la : Lattice sp) (sub : Submodular
             approaching = a;
             closer = λ g. absurd (false≢true g);
             same = λ g. kept f ∙ j .same refl;
-            still = λ g. subst (λ z. (q : ℕ) → q < p + 1 → refine s sp D z q ≡ z) (sym (kept f)) (below-more _ p (j .still refl) (sym e ∙ kept f));
+            still = λ g. subst (λ z. (q : ℕ) → q < p + 1 → refine s sp D z q ≡ z) (sym (kept f)) (below-more _ p (j .still refl) (sym stepped ∙ kept f));
           }
-      go false j false f = changed x₀ (p + 1) y a (rw (j .same refl) at (moved f))
+      go false j false f = changed x₀ (p + 1) y a (subst (λ z. slack s sp y < slack s sp z) (j .same refl) (moved f))
 
   -- a sweep that changed nothing
   pub swept-end : {x₀ x : List ℕ} {c : Bool} → Swept s sp D x₀ (sp .places) x c → c ≡ false → x ≡ bound s sp D
@@ -98,16 +102,29 @@ module _ (net : Net) (o : Ordered net) (s : Side) (x₀ : List ℕ) where
       pub known-more : UpstreamTo net x x (suc p) (set upstream p v)
       known-more = let z : p + 1 ≡ suc p = omega arith in rw z at (before-step net o _ (onward-reads net x x) upstream p v few (i .known) e)
 
-      pub sweeping-step : (y : List ℕ) → y ≡ refine s (allowed net) (delay net) x p
-          → Sweeping net s x₀ (p + 1) y (set upstream p v) (changed || not (eqb (at y p) (at x p)))
-      unfolding refine within
-      sweeping-step y f =
+      -- what settling the place finds: both ends of its tie
+      module _ (l : Limited net) (weights driven : List ℕ) (w : WeightsFrom net 0 weights) (d : DrivenFrom net x₀ x₀ 0 driven) where
+        here : at (set upstream p v) p ≡ v
+        here = getD-set-same upstream p v 0 (omega (arith, i .known .long))
+
+        pub settle-asks : (at weights p ≤ 32640) × (v ≤ 443904000000) × (at driven p ≤ 12900000)
+        settle-asks = rw here at (figures-small net o l weights (set upstream p v) x w (i .swept .approaching .allowed) p (at driven p) few known-more (drives-yet driven d))
+
+        pub settle-finds : (r : Ends) → Settled net (at weights p) v p (at driven p) r → EndsAt net x p r
+        settle-finds r t =
+            settled-ends net o l weights (set upstream p v) x w (i .swept .approaching .allowed) p (at driven p) few known-more (drives-yet driven d) r (rw here t)
+
+      -- the end that is taken from s is put
+      pub sweeping-step : (r : Ends) (b : ℕ) → EndsAt net x p r → b ≡ endOf s r
+          → Sweeping net s x₀ (p + 1) (set x p b) (set upstream p v) (changed || not (eqb b (at x p)))
+      unfolding within
+      sweeping-step r b f g =
           record {
             upTo = omega arith;
-            swept = swept-step (allowed-lattice net) (delay-submodular net o) s x₀ x y p changed (i .swept) few f;
-            known = let z : suc p ≡ p + 1 = omega arith in rw z at (upstream-reads net o x y (set upstream p v) (suc p) (λ a l. sym (elsewhere a (λ g. omega arith))) known-more);
-            later = λ q l m. elsewhere q (λ g. omega arith) ∙ i .later q (omega arith) m;
+            swept = swept-step (allowed-lattice net) (delay-submodular net o) s x₀ x p b changed (i .swept) few (g ∙ f .ends s);
+            known = let z : suc p ≡ p + 1 = omega arith in rw z at (upstream-reads net o x (set x p b) (set upstream p v) (suc p) (λ a l. sym (elsewhere a (λ h. omega arith))) known-more);
+            later = λ q l m. elsewhere q (λ h. omega arith) ∙ i .later q (omega arith) m;
           }
         where
-          elsewhere : (q : ℕ) → (q ≡ p → ⊥) → at y q ≡ at x q
-          elsewhere q n = ap (λ z. at z q) f ∙ getD-set-other x p q _ 0 n
+          elsewhere : (q : ℕ) → (q ≡ p → ⊥) → at (set x p b) q ≡ at x q
+          elsewhere q n = getD-set-other x p q b 0 n

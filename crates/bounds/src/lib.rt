@@ -2,6 +2,7 @@
 use lattice::Side;
 use net::Counts;
 use quantity::Capacitance;
+use refine::Ends;
 ghost use mathlib.Core.Path.{_≡_};
 ghost use Prim.Native.Nat.{suc, _-_, _<_, _≤_};
 ghost use Rattle.net.specs.Job.{placesBy};
@@ -9,6 +10,7 @@ ghost use Rattle.net.specs.Net.{netBy};
 ghost use Rattle.net.specs.Checked.{Checked, ForPlaces};
 ghost use Rattle.lattice.specs.SideOf.{sideOf};
 ghost use Rattle.place.specs.ByCounts.{Weighed};
+ghost use Rattle.refine.specs.Settled.{endOf};
 ghost use Rattle.bounds.specs.Sweep.{firstAt, ApproachingFrom, SweptFrom, BoundFrom};
 ghost use Rattle.bounds.specs.Between.{Between, roomy};
 
@@ -38,6 +40,16 @@ fn start(job: &[u8], counts: Counts, x: &mut [u8], side: Side)
     }
 }
 
+// The end of a tie that is taken from a side.
+fn end_of(ends: Ends, side: Side) -> u8
+    ensures { λ r. ⌜ r ≡ endOf (sideOf side) ends ⌝ }
+{
+    match side {
+        Side::Below => ends.lowest,
+        Side::Above => ends.highest,
+    }
+}
+
 // Refines at each place in turn, and tells whether an index changed. What the places drive is found once: a place drives what stands after it,
 // and an index is put only before that.
 fn sweep(job: &[u8], counts: Counts, weights: &[u64; 68], x: &mut [u8], side: Side) -> bool
@@ -55,20 +67,12 @@ fn sweep(job: &[u8], counts: Counts, weights: &[u64; 68], x: &mut [u8], side: Si
     let mut changed = false;
     let mut p = 0;
     while p < places {
-        let before = x[p];
-        let resistance = place::upstream_at(job, counts, weights, x, x, &upstream, p);
-        upstream[p] = resistance.0;
-        refine::settle(
-            job,
-            counts,
-            weights,
-            &upstream,
-            Capacitance(driven[p]),
-            x,
-            p,
-            side,
-        );
-        changed = changed | (x[p] != before);
+        let before = place::upstream_at(job, counts, weights, x, x, &upstream, p);
+        upstream[p] = before.0;
+        let ends = refine::settle(job, counts, weights[p], before, p, Capacitance(driven[p]));
+        let best = end_of(ends, side);
+        changed = changed | (best != x[p]);
+        x[p] = best;
         p += 1;
     }
     changed

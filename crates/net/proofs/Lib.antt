@@ -7,6 +7,7 @@ pub mod Bound
 pub mod Places
 pub mod Questions
 pub mod Answers
+pub mod Ties
 pub mod Demands
 pub mod Promises
 pub mod Former

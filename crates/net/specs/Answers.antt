@@ -3,10 +3,9 @@ use mathlib.Core.Bool.{Bool, cond, _&&_}
 use mathlib.Core.List.{List, [], _∷_, _++_, flatMap}
 use Prim.Native.Nat.{ℕ, zero, suc, _*_, _/_, _%_}
 use lib.Dec.{leb, ltb, eqb}
-use lib.ListN.{length, take, drop, replicate}
-use Rattle.lattice.specs.Side.{Side}
+use lib.ListN.{length, set, take, drop, replicate}
 use Rattle.lattice.specs.Lists.{at, every, from}
-use Rattle.lattice.specs.Refine.{best}
+use Rattle.lattice.specs.Refine.{bestBelow, bestAbove}
 use Rattle.net.specs.Net.{Net, places, netOf}
 use Rattle.net.specs.Delay.{delay, loadFigure}
 use Rattle.net.specs.Sizings.{allowed, leastDelay, lean, wide, lowerBound, upperBound, room}
@@ -44,10 +43,13 @@ measured job x =
     record { number = 0; delay = delay net (sizingIn net x); load = loadFigure net (sizingIn net x) }
     record { number = measureNumber job x; delay = 0; load = 0 }
 
--- refine: the number, and with 0 the best index at the place, the rest held: from below the smallest, from above the largest.
+-- refine: the number, and with 0 the smallest and the largest best index at the place, the rest held, and the scaled delay that is reached with
+-- the smallest put there, or the largest: theorem `either-end` in `proofs/Ties` says that it is the same. A refusal has zeros.
 pub record Refined : Type 0 where
   pub number : ℕ
-  pub index : ℕ
+  pub lowest : ℕ
+  pub highest : ℕ
+  pub delay : ℕ
 
 unfoldable pub refineNumber : List ℕ → List ℕ → ℕ → ℕ
 refineNumber job x p =
@@ -58,12 +60,15 @@ refineNumber job x p =
     ∷ ask 17 (question17 (netOf job) p)
     ∷ [])
 
-unfoldable pub refined : List ℕ → List ℕ → ℕ → Side → Refined
-refined job x p side =
+unfoldable pub refined : List ℕ → List ℕ → ℕ → Refined
+refined job x p =
     let net : Net = netOf job in
+    let held : List ℕ = sizingIn net x in
+    let smallest : ℕ = bestBelow (allowed net) (delay net) held p in
+    let largest : ℕ = bestAbove (allowed net) (delay net) held p in
     cond (eqb (refineNumber job x p) 0)
-    record { number = 0; index = best side (allowed net) (delay net) (sizingIn net x) p }
-    record { number = refineNumber job x p; index = 0 }
+    record { number = 0; lowest = smallest; highest = largest; delay = delay net (set held p smallest) }
+    record { number = refineNumber job x p; lowest = 0; highest = 0; delay = 0 }
 
 -- choose: the first P bytes of the one of two sizings that has the smaller delay, at a tie of the first; a refusal gives the empty part.
 unfoldable pub chooseNumber : List ℕ → List ℕ → List ℕ → ℕ

@@ -3,7 +3,6 @@
 use mathlib.Core.List.{List, [], _∷_, _++_}
 use Prim.Native.Nat.{ℕ}
 use lib.ListN.{replicate}
-use Rattle.lattice.specs.Side.{below, above}
 use Rattle.net.specs.Net.{netOf}
 use Rattle.net.specs.Sizings.{leastDelay, lean, wide}
 use Rattle.net.specs.Questions.{refusal}
@@ -73,9 +72,9 @@ measure job x = measured job x .number ∷ measured job x .delay ∷ []
 abbrev load : List ℕ → List ℕ → List ℕ
 load job x = measured job x .number ∷ measured job x .load ∷ []
 
--- The number and the best index that refine answers from below, then from above.
+-- The number, the smallest and the largest best index, and the delay reached, that refine answers.
 abbrev refine : List ℕ → List ℕ → ℕ → List ℕ
-refine job x p = refined job x p below .number ∷ refined job x p below .index ∷ refined job x p above .number ∷ refined job x p above .index ∷ []
+refine job x p = refined job x p .number ∷ refined job x p .lowest ∷ refined job x p .highest ∷ refined job x p .delay ∷ []
 
 -- The least delay, then lean and wide.
 abbrev least : List ℕ → List ℕ
@@ -97,7 +96,7 @@ starredTable =
     ∷ is (measure J4 (0 ∷ 1 ∷ 0 ∷ [])) (0 ∷ 270 ∷ [])
     ∷ is (measure J4 (0 ∷ 1 ∷ 1 ∷ [])) (0 ∷ 262 ∷ [])
     ∷ is (load J4 (0 ∷ 0 ∷ 0 ∷ [])) (0 ∷ 9 ∷ [])
-    ∷ is (refine J4 (0 ∷ 0 ∷ 1 ∷ []) 1) (0 ∷ 0 ∷ 0 ∷ 1 ∷ [])
+    ∷ is (refine J4 (0 ∷ 0 ∷ 1 ∷ []) 1) (0 ∷ 0 ∷ 1 ∷ 262 ∷ [])
     ∷ is (measure J5 (0 ∷ 0 ∷ 0 ∷ 0 ∷ [])) (0 ∷ 155 ∷ [])
     ∷ is (refusal [] ∷ []) (1 ∷ [])
     ∷ is (refusal (replicate 17 0) ∷ []) (1 ∷ [])

@@ -4,13 +4,13 @@ use mathlib.Core.List.{List}
 use Prim.Native.Nat.{ℕ, _≤_}
 use native.Mathlib.Omega.{arith}
 use borrow.Author.Tests.{ne-eqb}
-use Rattle.lattice.specs.Side.{Side}
 use Rattle.net.specs.Answers.{Measured, Refined, measured, refined, chooseNumber}
 use Rattle.elmore.specs.declared.DelayAndLoad.{DelayAndLoad}
 use Rattle.operations.specs.declared.Measurement.{Measurement}
 use Rattle.operations.specs.declared.Measurement.the-variants.{Figures, Refused}
+use Rattle.operations.specs.declared.EndsAndDelay.{EndsAndDelay}
 use Rattle.operations.specs.declared.Refinement.{Refinement}
-use Rattle.operations.specs.declared.Refinement.the-variants.{Index, Refused as NotRefined}
+use Rattle.operations.specs.declared.Refinement.the-variants.{Best, Refused as NotRefined}
 use Rattle.operations.specs.declared.Preference.the-variants.{First, Second, Neither}
 use Rattle.operations.specs.Outcomes.{measuredBy, measureRefused, refinedBy, refineRefused, Preferred}
 use Rattle.numlejka.specs.Results.{answered, chosenSlice}
@@ -32,16 +32,19 @@ module _ (job x : List ℕ) (m : Measurement) (told : measuredBy m ≡ measured 
       let h : 1 ≤ n = subst measureRefused e k in
       (ap (λ (r : Measured). r .number) (sym (ap measuredBy e) ∙ told), kept n _ d h, kept n _ l h)
 
-module _ (job x : List ℕ) (p : ℕ) (s : Side) (m : Refinement) (told : refinedBy m ≡ refined job x p s) where
-  pub refine-answer : (k : ℕ) → m ≡ Index k → (0 ≡ refined job x p s .number) × (k ≡ refined job x p s .index)
-  refine-answer k e =
+module _ (job x : List ℕ) (p : ℕ) (m : Refinement) (told : refinedBy m ≡ refined job x p) where
+  pub refine-answer : (f : EndsAndDelay) → m ≡ Best f
+      → (0 ≡ refined job x p .number) × (f .lowest ≡ refined job x p .lowest) × (f .highest ≡ refined job x p .highest) × (f .delay .0 ≡ refined job x p .delay)
+  refine-answer f e =
       let h = sym (ap refinedBy e) ∙ told in
-      (ap (λ (r : Refined). r .number) h, ap (λ (r : Refined). r .index) h)
+      (ap (λ (r : Refined). r .number) h, ap (λ (r : Refined). r .lowest) h, ap (λ (r : Refined). r .highest) h, ap (λ (r : Refined). r .delay) h)
 
-  pub refine-refusal : (n i : ℕ) → m ≡ NotRefined n → refineRefused m → (n ≡ refined job x p s .number) × (i ≡ answered n (refined job x p s .index) i)
-  refine-refusal n i e k =
-      let h : 1 ≤ n = subst refineRefused e k in
-      (ap (λ (r : Refined). r .number) (sym (ap refinedBy e) ∙ told), kept n _ i h)
+  pub refine-refusal : (n l h d : ℕ) → m ≡ NotRefined n → refineRefused m
+      → (n ≡ refined job x p .number) × (l ≡ answered n (refined job x p .lowest) l) × (h ≡ answered n (refined job x p .highest) h)
+      × (d ≡ answered n (refined job x p .delay) d)
+  refine-refusal n l h d e k =
+      let o : 1 ≤ n = subst refineRefused e k in
+      (ap (λ (r : Refined). r .number) (sym (ap refinedBy e) ∙ told), kept n _ l o, kept n _ h o, kept n _ d o)
 
 module _ (job x y : List ℕ) where
   pub choose-first : (p : ℕ) → Preferred job x y (First p) → 1 ≡ chosenSlice job x y

@@ -1,18 +1,13 @@
--- What a caller in C gets: the parameters after a call, the side that a byte stands for, and which of two slices is chosen.
+-- What a caller in C gets: the parameters after a call, and which of two slices is chosen.
 use mathlib.Core.Bool.{cond}
 use mathlib.Core.List.{List}
 use Prim.Native.Nat.{ℕ}
 use lib.Dec.{eqb}
-use Rattle.lattice.specs.Side.{Side, below, above}
 use Rattle.net.specs.Answers.{chooseNumber, firstChosen}
 
 -- What a parameter holds after a call: with the number 0 the answer, with every other number what it held before.
 abbrev pub answered : ℕ → ℕ → ℕ → ℕ
 answered number answer before = cond (eqb number 0) answer before
-
--- The side that a byte stands for: 0 is below, every other byte above.
-abbrev pub sideBy : ℕ → Side
-sideBy byte = cond (eqb byte 0) below above
 
 -- Which slice choose hands back a part of: 1 the first, 2 the second, 0 where it refuses.
 unfoldable pub chosenSlice : List ℕ → List ℕ → List ℕ → ℕ

@@ -1,5 +1,4 @@
 // The C interface: each operation returns its number and answers through the parameters that the caller lends.
-use lattice::Side;
 use operations::Measurement;
 use operations::Preference;
 use operations::Refinement;
@@ -7,8 +6,7 @@ ghost use mathlib.Core.Path.{_≡_};
 ghost use lib.ListN.{length};
 ghost use Rattle.net.specs.Answers.{measured, refined, sizeNumber, sizeBuffer};
 ghost use Rattle.net.specs.Promises.{Promises};
-ghost use Rattle.lattice.specs.SideOf.{sideOf};
-ghost use Rattle.numlejka.specs.Results.{answered, sideBy, chosenSlice};
+ghost use Rattle.numlejka.specs.Results.{answered, chosenSlice};
 
 // The scaled delay and the load figure of a sizing, written where the number is 0.
 #[no_mangle]
@@ -34,29 +32,30 @@ pub extern "C" fn numlejka_measure(
     }
 }
 
-// The side that a byte stands for: 0 is below, every other byte above.
-fn side_of(above: u8) -> Side
-    ensures { λ r. ⌜ sideOf r ≡ sideBy above ⌝ }
-{
-    if above == 0 { Side::Below } else { Side::Above }
-}
-
-// The best index at a place, the rest of the sizing held, written where the number is 0.
+// The smallest and the largest best index at a place, the rest of the sizing held, and the scaled delay that either reaches, written where the
+// number is 0.
 #[no_mangle]
 pub extern "C" fn numlejka_refine(
     job: &[u8],
     sizing: &[u8],
     place: usize,
-    above: u8,
-    index: &mut u8,
+    lowest: &mut u8,
+    highest: &mut u8,
+    delay: &mut u64,
 ) -> usize
-    ensures number { λ r. ⌜ r ≡ refined (now (job .entry)) (now (sizing .entry)) place (sideBy above) .number ⌝ }
-    ensures index { λ r. ⌜ now (index .exit)
-        ≡ answered r (refined (now (job .entry)) (now (sizing .entry)) place (sideBy above) .index) (now (index .entry)) ⌝ }
+    ensures number { λ r. ⌜ r ≡ refined (now (job .entry)) (now (sizing .entry)) place .number ⌝ }
+    ensures lowest { λ r. ⌜ now (lowest .exit)
+        ≡ answered r (refined (now (job .entry)) (now (sizing .entry)) place .lowest) (now (lowest .entry)) ⌝ }
+    ensures highest { λ r. ⌜ now (highest .exit)
+        ≡ answered r (refined (now (job .entry)) (now (sizing .entry)) place .highest) (now (highest .entry)) ⌝ }
+    ensures delay { λ r. ⌜ now (delay .exit)
+        ≡ answered r (refined (now (job .entry)) (now (sizing .entry)) place .delay) (now (delay .entry)) ⌝ }
 {
-    match operations::refine(job, sizing, place, side_of(above)) {
-        Refinement::Index(best) => {
-            *index = best;
+    match operations::refine(job, sizing, place) {
+        Refinement::Best(best) => {
+            *lowest = best.lowest;
+            *highest = best.highest;
+            *delay = best.delay.0;
             0
         }
         Refinement::Refused(number) => number,

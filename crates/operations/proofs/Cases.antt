@@ -6,47 +6,58 @@ use Prim.Native.Nat.{ℕ, _≤_, _<_}
 use native.Mathlib.Omega.{arith}
 use borrow.Author.Tests.{lt-ltb, le-ltb, le-leb, lt-leb, ne-eqb}
 use lib.Dec.{lit≤}
-use lib.ListN.{length, take, length-set}
-use lib.Seq.{length-take-le, getD-take, getD-set-same}
-use Rattle.lattice.specs.Side.{Side}
-use Rattle.lattice.specs.Lists.{at}
-use Rattle.lattice.specs.Space.{Allowed}
-use Rattle.lattice.specs.Refine.{best, refine}
+use lib.ListN.{length, set, take}
+use Rattle.lattice.specs.Side.{below, above}
+use Rattle.lattice.specs.Space.{Allowed, within}
+use Rattle.lattice.specs.Refine.{bestBelow}
+use Rattle.lattice.proofs.Refining.{best-is}
 use Rattle.net.specs.declared.Counts.{Counts}
 use Rattle.net.specs.Net.{Net, places, netBy, netOf}
 use Rattle.net.specs.Delay.{delay, loadFigure}
 use Rattle.net.specs.Sizings.{allowed}
-use Rattle.net.specs.Checked.{Checked}
+use Rattle.net.specs.Job.{placesBy}
+use Rattle.net.specs.Checked.{Checked, AllowedBy}
 use Rattle.net.specs.Questions.{ask, firstNo, refusal}
 use Rattle.net.specs.Answers.{question15, question16, question17, sizingIn, measureNumber, measured, refineNumber, refined, chooseNumber, firstChosen, chosen}
-use Rattle.net.proofs.Answers.{Numbered, firstNo-pass, firstNo-stop, firstNo-no, firstNo-yes, job-passes, job-fails, sizingQuestions, measured-refused, measured-answered, refined-refused, refined-answered, chosen-refused}
+use Rattle.net.proofs.Dominance.{allowed-lattice}
+use Rattle.net.proofs.Answers.{Numbered, ranges-allowed, firstNo-pass, firstNo-stop, firstNo-no, firstNo-yes, job-passes, job-fails, sizingQuestions, measured-refused, measured-answered, refined-refused, refined-answered, chosen-refused}
 use Rattle.net.proofs.Places.{delay-take, loadFigure-take}
-use Rattle.net.proofs.Questions.{ordered, allowed-iff}
+use Rattle.net.proofs.Questions.{ordered, allowed-long, allowed-ranges}
 use Rattle.allowed.specs.Number.{sizingNumber}
 use Rattle.allowed.proofs.Numbers.{number-ranges}
+use Rattle.elmore.specs.Ready.{Ready}
+use Rattle.quantity.specs.declared.Delay.{Delay}
+use Rattle.refine.specs.declared.Ends.{Ends}
+use Rattle.refine.specs.Settled.{EndsAt}
+use Rattle.operations.specs.declared.EndsAndDelay.{EndsAndDelay}
+use Rattle.operations.specs.declared.Refinement.the-variants.{Best, Refused as NotRefined}
 use Rattle.operations.specs.declared.Preference.the-variants.{First, Second, Neither}
-use Rattle.operations.specs.Outcomes.{Preferred, fromSecond}
+use Rattle.operations.specs.Reached.{ReachedAt}
+use Rattle.operations.specs.Outcomes.{refinedBy, Preferred, fromSecond}
 
 -- the sizing in a buffer that passes questions 15 and 16 is allowed
 pub sizing-allowed : (net : Net) (x : List ℕ) → sizingNumber net x ≡ 0 → Allowed (allowed net) (sizingIn net x)
-sizing-allowed net x e =
-    let r = number-ranges net x e in
-    allowed-iff net (sizingIn net x) .1
-    record {
-      long = length-take-le (places net) x (r .long);
-      low = λ p h. rw (getD-take (places net) x p 0 h) (r .low p h);
-      high = λ p h. rw (getD-take (places net) x p 0 h) (r .high p h);
-    }
+sizing-allowed net x e = ranges-allowed net x (number-ranges net x e)
 
--- the sizing y, a copy of x, refined at p to z
-pub refined-at : (net : Net) (s : Side) (x y z : List ℕ) (p : ℕ) → Allowed (allowed net) x → p < places net → y ≡ x → z ≡ refine s (allowed net) (delay net) y p
-    → (p < length z) × (at z p ≡ best s (allowed net) (delay net) x p)
-unfolding refine
-refined-at net s x y z p a h e f =
-    let l : p < length y = omega (arith, ap length e, allowed-iff net x .0 a .long) in (
-      omega (arith, ap length f ∙ length-set y p _),
-      ap (λ v. at v p) f ∙ getD-set-same y p _ 0 l ∙ ap (λ v. best s (allowed net) (delay net) v p) e,
-    )
+-- The sizing y, a copy of x, with the smallest end of the tie at p put there: it is ready to be evaluated, and what is then known.
+module _ (c : Counts) (b x y : List ℕ) (p : ℕ) (r : Ends) (k : Checked c b) (a : AllowedBy c b x) (few : p < placesBy c) (same : y ≡ x)
+    (ends : EndsAt (netBy c b) x p r) where
+  put-is : set y p (r .lowest) ≡ set x p (bestBelow (allowed (netBy c b)) (delay (netBy c b)) x p)
+  put-is = ap (λ z. set z p (r .lowest)) same ∙ ap (λ j. set x p j) (ends .ends below)
+
+  pub put-inside : p < length y
+  put-inside = omega (arith, ap length same, allowed-long (netBy c b) x a)
+
+  pub put-ready : Ready c b (set y p (r .lowest))
+  unfolding within
+  put-ready =
+      record {
+        checked = k;
+        inRanges = allowed-ranges (netBy c b) (set y p (r .lowest)) (rw put-is (best-is (allowed-lattice (netBy c b)) (delay (netBy c b)) below x a p few .allowed));
+      }
+
+  pub put-reached : (d : Delay) → d .0 ≡ delay (netBy c b) (set y p (r .lowest)) → ReachedAt (netBy c b) x p record { lowest = r .lowest; highest = r .highest; delay = d }
+  put-reached d e = record { smallest = ends .ends below; largest = ends .ends above; reached = e ∙ ap (delay (netBy c b)) put-is }
 
 module _ (job x : List ℕ) where
   -- a job that is refused
@@ -54,9 +65,9 @@ module _ (job x : List ℕ) where
   unfolding measureNumber
   measure-job n e z = sym (measured-refused job x n (job-fails job _ (λ f. z (e ∙ f)) ∙ sym e) z)
 
-  pub refine-job : (p : ℕ) (s : Side) (n : ℕ) → n ≡ refusal job → (n ≡ 0 → ⊥) → record { number = n; index = 0 } ≡ refined job x p s
+  pub refine-job : (p n : ℕ) → n ≡ refusal job → (n ≡ 0 → ⊥) → refinedBy (NotRefined n) ≡ refined job x p
   unfolding refineNumber
-  refine-job p s n e z = sym (refined-refused job x p s n (job-fails job _ (λ f. z (e ∙ f)) ∙ sym e) z)
+  refine-job p n e z = sym (refined-refused job x p n (job-fails job _ (λ f. z (e ∙ f)) ∙ sym e) z)
 
   -- a job that passes
   module _ {c : Counts} (k : Checked c job) (passes : refusal job ≡ 0) where
@@ -91,24 +102,25 @@ module _ (job x : List ℕ) where
     unfolding sizingNumber
     sizing-is = ap (λ n. sizingNumber n x) (sym net-is)
 
-    pub refine-sizing : (p : ℕ) (s : Side) (n : ℕ) → n ≡ sizingNumber (netBy c job) x → (n ≡ 0 → ⊥) → record { number = n; index = 0 } ≡ refined job x p s
-    refine-sizing p s n e z =
-        sym (refined-refused job x p s n (refine-number p ∙ firstNo-stop (sizingQuestions job x) _ (λ f. z (e ∙ sym sizing-is ∙ f)) ∙ sizing-is ∙ sym e) z)
+    pub refine-sizing : (p n : ℕ) → n ≡ sizingNumber (netBy c job) x → (n ≡ 0 → ⊥) → refinedBy (NotRefined n) ≡ refined job x p
+    refine-sizing p n e z =
+        sym (refined-refused job x p n (refine-number p ∙ firstNo-stop (sizingQuestions job x) _ (λ f. z (e ∙ sym sizing-is ∙ f)) ∙ sizing-is ∙ sym e) z)
 
     asked-17 : (p : ℕ) → sizingNumber (netBy c job) x ≡ 0 → refineNumber job x p ≡ firstNo (ask 17 (question17 (netOf job) p) ∷ [])
     unfolding Numbered
     asked-17 p e = refine-number p ∙ firstNo-pass (sizingQuestions job x) _ (lit≤ tt, (lit≤ tt, tt)) (sizing-is ∙ e)
 
-    pub refine-place : (p : ℕ) (s : Side) → sizingNumber (netBy c job) x ≡ 0 → places (netBy c job) ≤ p → record { number = 17; index = 0 } ≡ refined job x p s
-    refine-place p s e h =
-        sym (refined-refused job x p s 17 (asked-17 p e ∙ firstNo-no 17 [] _ (le-ltb p (places (netOf job)) (subst (λ n. places n ≤ p) net-is h))) (λ z. omega arith))
+    pub refine-place : (p : ℕ) → sizingNumber (netBy c job) x ≡ 0 → places (netBy c job) ≤ p → refinedBy (NotRefined 17) ≡ refined job x p
+    refine-place p e h =
+        sym (refined-refused job x p 17 (asked-17 p e ∙ firstNo-no 17 [] _ (le-ltb p (places (netOf job)) (subst (λ n. places n ≤ p) net-is h))) (λ z. omega arith))
 
-    pub refine-answer : (p : ℕ) (s : Side) (i : ℕ) → sizingNumber (netBy c job) x ≡ 0 → p < places (netBy c job)
-        → i ≡ best s (allowed (netBy c job)) (delay (netBy c job)) (sizingIn (netBy c job) x) p → record { number = 0; index = i } ≡ refined job x p s
+    pub refine-answer : (p : ℕ) (r : EndsAndDelay) → sizingNumber (netBy c job) x ≡ 0 → p < places (netBy c job) → ReachedAt (netBy c job) (sizingIn (netBy c job) x) p r
+        → refinedBy (Best r) ≡ refined job x p
     unfolding firstNo
-    refine-answer p s i e h f =
-        rw (f ∙ ap (λ n. best s (allowed n) (delay n) (sizingIn n x) p) net-is)
-        (sym (refined-answered job x p s (asked-17 p e ∙ firstNo-yes 17 [] _ (lt-ltb p (places (netOf job)) (subst (λ n. p < places n) net-is h)))))
+    refine-answer p r e h f =
+        let t : ReachedAt (netOf job) (sizingIn (netOf job) x) p r = subst (λ n. ReachedAt n (sizingIn n x) p r) net-is f in
+        rw (t .smallest, t .largest, t .reached)
+        (sym (refined-answered job x p (asked-17 p e ∙ firstNo-yes 17 [] _ (lt-ltb p (places (netOf job)) (subst (λ n. p < places n) net-is h)))))
 
 -- choose: both sizings pass, or it refuses
 first-fails : (a b c d : Bool) → (_≡_ {A = ℕ} (cond a (cond b 0 16) 15) 0 → ⊥) → _≡_ {A = ℕ} (cond (a && c) (cond (b && d) 0 16) 15) 0 → ⊥

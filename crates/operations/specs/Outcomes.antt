@@ -11,7 +11,7 @@ use Rattle.net.specs.Answers.{Measured, Refined, chooseNumber, firstChosen}
 use Rattle.operations.specs.declared.Measurement.{Measurement}
 use Rattle.operations.specs.declared.Measurement.the-variants.{Figures, Refused}
 use Rattle.operations.specs.declared.Refinement.{Refinement}
-use Rattle.operations.specs.declared.Refinement.the-variants.{Index, Refused as NotRefined}
+use Rattle.operations.specs.declared.Refinement.the-variants.{Best, Refused as NotRefined}
 use Rattle.operations.specs.declared.Preference.{Preference}
 use Rattle.operations.specs.declared.Preference.the-variants.{First, Second, Neither}
 
@@ -21,8 +21,8 @@ measuredBy (Figures f) = record { number = 0; delay = f .delay .0; load = f .loa
 measuredBy (Refused n) = record { number = n; delay = 0; load = 0 }
 
 abbrev pub refinedBy : Refinement → Refined
-refinedBy (Index k) = record { number = 0; index = k }
-refinedBy (NotRefined n) = record { number = n; index = 0 }
+refinedBy (Best f) = record { number = 0; lowest = f .lowest; highest = f .highest; delay = f .delay .0 }
+refinedBy (NotRefined n) = record { number = n; lowest = 0; highest = 0; delay = 0 }
 
 -- A refusal has a question's number, never 0.
 abbrev pub measureRefused : Measurement → Type 0
@@ -30,7 +30,7 @@ measureRefused (Figures f) = Unit {0}
 measureRefused (Refused n) = 1 ≤ n
 
 abbrev pub refineRefused : Refinement → Type 0
-refineRefused (Index k) = Unit {0}
+refineRefused (Best f) = Unit {0}
 refineRefused (NotRefined n) = 1 ≤ n
 
 -- Choose hands back a part of the second slice where it answers and the second has the smaller delay, of the first otherwise.

@@ -1,18 +1,21 @@
 // measure, refine and choose: three of the four operations, total on every input.
 use elmore::DelayAndLoad;
-use lattice::Side;
 use net::Counts;
 use quantity::Capacitance;
+use quantity::Delay;
+use quantity::Resistance;
+use refine::Ends;
 ghost use mathlib.Core.Path.{_≡_};
 ghost use mathlib.Core.Bool.{true, false};
 ghost use Prim.Native.Nat.{_<_};
 ghost use lib.ListN.{length};
-ghost use Rattle.lattice.specs.SideOf.{sideOf};
 ghost use Rattle.net.specs.Job.{placesBy};
+ghost use Rattle.net.specs.Net.{netBy};
 ghost use Rattle.net.specs.Checked.{Checked, AllowedBy};
 ghost use Rattle.net.specs.Answers.{measured, refined, chosen};
 ghost use Rattle.links.specs.Links.{LinkedBy};
-ghost use Rattle.refine.specs.Settled.{bestAt, Settled};
+ghost use Rattle.refine.specs.Settled.{EndsAt};
+ghost use Rattle.operations.specs.Reached.{ReachedAt};
 ghost use Rattle.operations.specs.Outcomes.{measuredBy, refinedBy, measureRefused, refineRefused, Preferred, fromSecond};
 
 // What measure answers: the figures of the sizing, or the number of the first question that fails.
@@ -21,9 +24,16 @@ pub enum Measurement {
     Refused(usize),
 }
 
-// What refine answers: the best index, or the number of the first question that fails.
+// The smallest and the largest best index at a place, and the scaled delay of the sizing with either of them put there.
+pub struct EndsAndDelay {
+    pub lowest: u8,
+    pub highest: u8,
+    pub delay: Delay,
+}
+
+// What refine answers: the best indices with the delay reached, or the number of the first question that fails.
 pub enum Refinement {
-    Index(u8),
+    Best(EndsAndDelay),
     Refused(usize),
 }
 
@@ -53,44 +63,49 @@ pub fn measure(job: &[u8], sizing: &[u8]) -> Measurement
     Measurement::Figures(elmore::figures(job, counts, &first, &next, sizing))
 }
 
-// Puts the best index at a place of an allowed sizing.
-fn refine_at(
+// The ends of the tie at a place of an allowed sizing.
+fn settle_at(
     job: &[u8],
     counts: Counts,
     first: &[usize],
     next: &[usize],
-    x: &mut [u8],
+    sizing: &[u8],
     place: usize,
-    side: Side,
-)
+) -> Ends
     requires { ⌜ Checked counts (now job) ⌝ }
     requires { ⌜ LinkedBy counts (now job) (now first) (now next) ⌝ }
-    requires { ⌜ AllowedBy counts (now job) (now x) ⌝ }
+    requires { ⌜ AllowedBy counts (now job) (now sizing) ⌝ }
     requires { ⌜ place < placesBy counts ⌝ }
-    ensures { λ r. ⌜ Settled counts (now (job .entry)) (sideOf side) place (now (x .entry)) (now (x .exit)) ⌝ }
+    ensures { λ r. ⌜ EndsAt (netBy counts (now (job .entry))) (now (sizing .entry)) place r ⌝ }
 {
     let mut weights = [0u64; 68];
     weights::weigh(job, counts, first, next, &mut weights);
     // loads, by place
     let mut driven = [0u64; 68];
-    place::drive(job, counts, x, x, &mut driven);
+    place::drive(job, counts, sizing, sizing, &mut driven);
     // weighted resistances, by place
     let mut upstream = [0u64; 68];
-    place::go_upstream(job, counts, &weights, x, x, &mut upstream, place + 1);
-    refine::settle(
+    place::go_upstream(
         job,
         counts,
         &weights,
-        &upstream,
-        Capacitance(driven[place]),
-        x,
-        place,
-        side,
+        sizing,
+        sizing,
+        &mut upstream,
+        place + 1,
     );
+    refine::settle(
+        job,
+        counts,
+        weights[place],
+        Resistance(upstream[place]),
+        place,
+        Capacitance(driven[place]),
+    )
 }
 
-// The best index at a place of an allowed sizing, which is copied into x.
-fn best_index(
+// The same, with the delay that they reach. The sizing is copied into x, and one of the ends put there.
+fn refine_at(
     job: &[u8],
     counts: Counts,
     first: &[usize],
@@ -98,23 +113,27 @@ fn best_index(
     sizing: &[u8],
     x: &mut [u8],
     place: usize,
-    side: Side,
-) -> u8
+) -> EndsAndDelay
     requires { ⌜ Checked counts (now job) ⌝ }
     requires { ⌜ LinkedBy counts (now job) (now first) (now next) ⌝ }
     requires { ⌜ AllowedBy counts (now job) (now sizing) ⌝ }
     requires { ⌜ length (now sizing) ≡ length (now x) ⌝ }
     requires { ⌜ place < placesBy counts ⌝ }
-    ensures { λ r. ⌜ r ≡ bestAt counts (now (job .entry)) (sideOf side) place (now (sizing .entry)) ⌝ }
+    ensures { λ r. ⌜ ReachedAt (netBy counts (now (job .entry))) (now (sizing .entry)) place r ⌝ }
 {
+    let ends = settle_at(job, counts, first, next, sizing, place);
     bytes::copy(sizing, x);
-    refine_at(job, counts, first, next, x, place, side);
-    x[place]
+    x[place] = ends.lowest;
+    EndsAndDelay {
+        lowest: ends.lowest,
+        highest: ends.highest,
+        delay: elmore::delay(job, counts, first, next, x),
+    }
 }
 
-// The best index at a place, the rest of the sizing held.
-pub fn refine(job: &[u8], sizing: &[u8], place: usize, side: Side) -> Refinement
-    ensures answer { λ r. ⌜ refinedBy r ≡ refined (now (job .entry)) (now (sizing .entry)) place (sideOf side) ⌝ }
+// The best indices at a place, the rest of the sizing held, and the scaled delay that they reach.
+pub fn refine(job: &[u8], sizing: &[u8], place: usize) -> Refinement
+    ensures answer { λ r. ⌜ refinedBy r ≡ refined (now (job .entry)) (now (sizing .entry)) place ⌝ }
     ensures refusal { λ r. ⌜ refineRefused r ⌝ }
 {
     let mut first = [0usize; 65];
@@ -134,16 +153,7 @@ pub fn refine(job: &[u8], sizing: &[u8], place: usize, side: Side) -> Refinement
     }
     let mut x = [0u8; 68];
     let held = &sizing[..places];
-    Refinement::Index(best_index(
-        job,
-        counts,
-        &first,
-        &next,
-        held,
-        &mut x[..places],
-        place,
-        side,
-    ))
+    Refinement::Best(refine_at(job, counts, &first, &next, held, &mut x[..places], place))
 }
 
 // The one of two sizings that has the smaller delay, at a tie the first, and its P.

@@ -15,14 +15,15 @@ use Rattle.net.specs.Delay.{delay}
 use Rattle.net.specs.Places.{placeWeight, delayAt, loadAt, drivenLoad, placeDelay, placeLoad}
 use Rattle.net.proofs.Sum.{sum-same}
 use Rattle.net.proofs.Places.{places-delay, driven-reads, placeLoad-reads}
+use Rattle.place.specs.Partial.{cost}
 use Rattle.place.specs.Held.{hangsAt, behind, sinkAt, slope, before, UpstreamTo}
 use Rattle.place.proofs.Held.{sum-at, sum-apart, before-same, hangs-falls, driven-behind, apart}
 
 module _ (net : Net) (parents : (i : ℕ) → i < net .segments → net .parent i ≤ i) (x : List ℕ) (long : length x ≡ places net)
     (p : ℕ) (few : p < places net) (upstream : List ℕ) (priced : UpstreamTo net x x (suc p) upstream) where
   -- what the index j costs at p
-  abbrev pub cost : ℕ → ℕ
-  cost j = placeWeight net p * delayAt net p j (drivenLoad net x p) + at upstream p * loadAt net p j (drivenLoad net x p)
+  abbrev price : ℕ → ℕ
+  price = cost net (placeWeight net p) (at upstream p) p (drivenLoad net x p)
 
   here : (j : ℕ) → at (set x p j) p ≡ j
   here j = getD-set-same x p j 0 (omega arith)
@@ -70,7 +71,7 @@ module _ (net : Net) (parents : (i : ℕ) → i < net .segments → net .parent 
             let e : placeLoad net y q - placeLoad net z q ≡ 0 = omega (arith, after q (omega arith) m) in
             rw e (omega arith)
 
-    raised : delay net y + cost i ≡ delay net z + cost j
+    raised : delay net y + price i ≡ delay net z + price j
     raised =
         let a = apart net parents (λ q. eqb q p) (at x) (placeLoad net y) (placeLoad net z) (loaded j) (loaded i) smaller (at upstream) upstream-holds (at y) (λ q m t. else-where j q (eqb-false q p t)) in
         let b = sum-same (places net) (placeDelay net y) (λ q. placeWeight net q * delayAt net q (at y q) (sinkAt net q + behind net (placeLoad net y) q)) (λ q m. rw (driven-behind net parents y q m)) in
@@ -97,9 +98,9 @@ module _ (net : Net) (parents : (i : ℕ) → i < net .segments → net .parent 
         other q m false t = cc (else-where i q (eqb-false q p t), driven-behind net parents z q m)
 
   -- the delay changes as the cost does
-  pub traded : (i j : ℕ) → delay net (set x p j) + cost i ≡ delay net (set x p i) + cost j
+  pub traded : (i j : ℕ) → delay net (set x p j) + price i ≡ delay net (set x p i) + price j
   traded i j = go (decLe (loadAt net p i (drivenLoad net x p)) (loadAt net p j (drivenLoad net x p)))
     where
-      go : Dec (loadAt net p i (drivenLoad net x p) ≤ loadAt net p j (drivenLoad net x p)) → delay net (set x p j) + cost i ≡ delay net (set x p i) + cost j
+      go : Dec (loadAt net p i (drivenLoad net x p) ≤ loadAt net p j (drivenLoad net x p)) → delay net (set x p j) + price i ≡ delay net (set x p i) + price j
       go (yes h) = raised i j h
       go (no h) = sym (raised j i (omega arith))

@@ -8,9 +8,14 @@ use Rattle.net.specs.Net.{Net, places}
 use Rattle.net.specs.Places.{placeWeight, delayAt, loadAt}
 use Rattle.place.specs.declared.PlaceStep.{PlaceStep}
 
--- r is the step at place p to the index k, where it has the weight w, the weighted resistance u upstream, and drives the load l.
+-- What the index k costs at place p, where it has the weight w, the weighted resistance u upstream, and drives the load l: its own delay, and
+-- what the load that it shows costs upstream.
+abbrev pub cost : Net → (w u p l k : ℕ) → ℕ
+cost net w u p l k = w * delayAt net p k l + u * loadAt net p k l
+
+-- r is the step to that index.
 pub record StepOf (net : Net) (w u p k l : ℕ) (r : PlaceStep) : Type 0 where
-  pub delay : r .delay .0 ≡ w * delayAt net p k l + u * loadAt net p k l
+  pub delay : r .delay .0 ≡ cost net w u p l k
   pub load : r .load .0 ≡ loadAt net p k l
   pub fits : r .delay .0 < 2 ^ 63
 

@@ -2,7 +2,6 @@
 // holds the numbers of one of them, and a number read from it becomes its struct at once.
 ghost use mathlib.Core.Path.{_≡_};
 ghost use Prim.Native.Nat.{_+_, _*_, _^_, _<_};
-ghost use lib.Dec.{ltb};
 
 pub struct Resistance(pub u64);
 
@@ -89,12 +88,4 @@ pub fn add_delay(a: Delay, b: Delay) -> Delay
     ensures { λ r. ⌜ (r .0 ≡ a .0 + b .0) × (r .0 < 2 ^ 63) ⌝ }
 {
     Delay(a.0 + b.0)
-}
-
-// Is the delay d below the least so far plus a margin? With the margin 1 it also is where it ties.
-pub fn beats(d: Delay, least: Delay, margin: u64) -> bool
-    requires { ⌜ least .0 + margin < 2 ^ 64 ⌝ }
-    ensures { λ r. ⌜ r ≡ ltb (d .0) (least .0 + margin) ⌝ }
-{
-    d.0 < least.0 + margin
 }

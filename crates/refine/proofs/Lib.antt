@@ -1,1 +1,1 @@
-pub mod Scanning
+pub mod Settling

@@ -1,19 +1,31 @@
--- The best index at a place of a job's net, the rest of the sizing held, by the counts of its records and its bytes.
+-- Both ends of the tie at a place: by what its indices cost, and as the best indices of a sizing.
 use mathlib.Core.Path.{_≡_}
 use mathlib.Core.List.{List}
-use Prim.Native.Nat.{ℕ}
-use Rattle.lattice.specs.Side.{Side}
-use Rattle.lattice.specs.Refine.{best, refine}
+use Prim.Native.Nat.{ℕ, _≤_, _<_}
+use Rattle.lattice.specs.Side.{Side, below, above}
+use Rattle.lattice.specs.Cheapest.{Cheapest}
+use Rattle.lattice.specs.Refine.{best}
 use Rattle.net.specs.declared.Counts.{Counts}
-use Rattle.net.specs.Net.{netBy}
+use Rattle.net.specs.Job.{placesBy}
+use Rattle.net.specs.Net.{Net}
 use Rattle.net.specs.Delay.{delay}
 use Rattle.net.specs.Sizings.{allowed}
+use Rattle.place.specs.Partial.{cost}
+use Rattle.refine.specs.declared.Ends.{Ends}
 
-module _ (c : Counts) (b : List ℕ) (s : Side) (p : ℕ) where
-  -- Seen from s, the best index at place p of x.
-  abbrev pub bestAt : List ℕ → ℕ
-  bestAt x = best s (allowed (netBy c b)) (delay (netBy c b)) x p
+-- The end that is taken from s: from below the smallest index, from above the largest.
+abbrev pub endOf : Side → Ends → ℕ
+endOf below r = r .lowest
+endOf above r = r .highest
 
-  -- y is x with that index put at place p.
-  abbrev pub Settled : List ℕ → List ℕ → Type 0
-  Settled x y = y ≡ refine s (allowed (netBy c b)) (delay (netBy c b)) x p
+-- Place p is there, and its weight, the resistance upstream and the load are in the limits.
+abbrev pub SettleInLimits : Counts → (w u p d : ℕ) → Type 0
+SettleInLimits c w u p d = (p < placesBy c) × (w ≤ 32640) × (u ≤ 443904000000) × (d ≤ 12900000)
+
+-- r has the ends of the tie among the indices of place p that cost least.
+pub record Settled (net : Net) (w u p d : ℕ) (r : Ends) : Type 0 where
+  pub ends : (s : Side) → Cheapest s (net .lowest p) (net .highest p) (cost net w u p d) (endOf s r)
+
+-- r has the ends of the tie at place p of x: its smallest and its largest best index, the rest of x held.
+pub record EndsAt (net : Net) (x : List ℕ) (p : ℕ) (r : Ends) : Type 0 where
+  pub ends : (s : Side) → endOf s r ≡ best s (allowed net) (delay net) x p

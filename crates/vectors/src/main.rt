@@ -1,7 +1,5 @@
 // Many framed calls from standard input, one line of answer each: the answers are compared with those of an independent search.
-// A frame is a byte for the operation, then its arguments: a slice as a length of two bytes, the lowest first, and its bytes; a place or a side
-// as one byte.
-use lattice::Side;
+// A frame is a byte for the operation, then its arguments: a slice as a length of two bytes, the lowest first, and its bytes; a place as one byte.
 use operations::Measurement;
 use operations::Refinement;
 ghost use Prim.Native.Nat.{_<_, _≤_};
@@ -80,19 +78,20 @@ fn measure_line(job: &[u8], sizing: &[u8]) {
     say(b"\n");
 }
 
-fn side_of(x: u8) -> Side {
-    if x == 0 { Side::Below } else { Side::Above }
-}
-
-fn refine_line(job: &[u8], sizing: &[u8], place: usize, side: u8) {
+fn refine_line(job: &[u8], sizing: &[u8], place: usize) {
     say(b"refine");
-    match operations::refine(job, sizing, place, side_of(side)) {
-        Refinement::Index(k) => {
+    match operations::refine(job, sizing, place) {
+        Refinement::Best(best) => {
+            let delay = best.delay;
             number(0);
-            number(k as u64);
+            number(best.lowest as u64);
+            number(best.highest as u64);
+            number(delay.0);
         }
         Refinement::Refused(n) => {
             number(n as u64);
+            number(0);
+            number(0);
             number(0);
         }
     }
@@ -123,8 +122,7 @@ fn call<'a>(operation: u8, job: &mut [u8], second: &'a mut [u8], third: &'a mut 
         measure_line(&job[..n], &second[..m]);
     } else if operation == 2 {
         let place = value(read_byte());
-        let side = read_byte();
-        refine_line(&job[..n], &second[..m], place, side);
+        refine_line(&job[..n], &second[..m], place);
     } else if operation == 3 {
         let k = read_slice(third);
         choose_line(&job[..n], &second[..m], &third[..k]);

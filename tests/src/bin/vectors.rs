@@ -20,21 +20,19 @@ fn job_of(call: &Call) -> &[u8] {
     }
 }
 
-/// A call whose place and side fit into one byte each, the side 0 or 1.
+/// A call whose place fits into one byte.
 fn framed(call: Call) -> Call {
     match call {
         Call::Refine {
             job,
             sizing,
             place,
-            side,
-            index,
+            ends,
         } => Call::Refine {
             job,
             sizing,
             place: place.min(255),
-            side: side.min(1),
-            index,
+            ends,
         },
         other => other,
     }

@@ -5,7 +5,6 @@ use native.Mathlib.Omega.{arith}
 use lib.ListN.{replicate}
 use lib.Seq.{length-take-le}
 use Rattle.net.specs.Net.{netBy, places}
-use Rattle.lattice.specs.SideOf.{sideOf}
 use Rattle.allowed.proofs.Numbers.{number-ranges}
 use Rattle.operations.proofs.Cases.{sizing-allowed, refine-job, refine-sizing, refine-place, refine-answer}
 use borrow.Author.Needs.{needs}
@@ -25,7 +24,7 @@ returns : tie.Need-returns
 returns c =
     let b = c .before .before .before .before .before .before .before .before .before in
     let k = c .before .before .before .before .check in
-    (refine-job (b .args .job .now) (b .args .sizing .now) (b .args .place) (sideOf (b .args .side)) (k .result .number) (k .ensures .number) (λ e. omega arith), omega arith)
+    (refine-job (b .args .job .now) (b .args .sizing .now) (b .args .place) (k .result .number) (k .ensures .number) (λ e. omega arith), omega arith)
 
 sizing-number-requires : tie.Need-sizing-number-requires
 sizing-number-requires c κs =
@@ -39,7 +38,7 @@ returns-2 c =
     let b = c .before .before .before .before .before .before .before .before .before .before .before .before in
     let k = c .before .before .before .before .before .before .before .check in
     let z : k .result .number ≡ 0 = omega arith in (
-      refine-sizing (b .args .job .now) (b .args .sizing .now) (k .ensures .passed z) (sym (k .ensures .number) ∙ z) (b .args .place) (sideOf (b .args .side)) (c .before .sizing-number .result) (c .before .sizing-number .ensures) (λ e. omega arith),
+      refine-sizing (b .args .job .now) (b .args .sizing .now) (k .ensures .passed z) (sym (k .ensures .number) ∙ z) (b .args .place) (c .before .sizing-number .result) (c .before .sizing-number .ensures) (λ e. omega arith),
       omega arith,
     )
 
@@ -56,7 +55,7 @@ returns-3 c =
     let k = c .before .before .before .before .before .before .before .before .before .check in
     let z : k .result .number ≡ 0 = omega arith in
     let y : c .before .before .before .sizing-number .result ≡ 0 = omega arith in
-    (refine-place (b .args .job .now) (b .args .sizing .now) (k .ensures .passed z) (sym (k .ensures .number) ∙ z) (b .args .place) (sideOf (b .args .side)) (sym (c .before .before .before .sizing-number .ensures) ∙ y) (omega arith), omega arith)
+    (refine-place (b .args .job .now) (b .args .sizing .now) (k .ensures .passed z) (sym (k .ensures .number) ∙ z) (b .args .place) (sym (c .before .before .before .sizing-number .ensures) ∙ y) (omega arith), omega arith)
 
 slice-aggregate-held : tie.Need-slice-aggregate-held
 slice-aggregate-held c =
@@ -66,11 +65,11 @@ slice-aggregate-held c =
     let y : c .before .before .before .before .sizing-number .result ≡ 0 = omega arith in
     sym (length-take-le (places (netBy (k .result .counts) (b .args .job .now))) (b .args .sizing .now) (number-ranges (netBy (k .result .counts) (b .args .job .now)) (b .args .sizing .now) (sym (c .before .before .before .before .sizing-number .ensures) ∙ y) .long))
 
-slice-aggregate-best-index : tie.Need-slice-aggregate-best-index
-slice-aggregate-best-index c = search needs
+slice-aggregate-refine-at : tie.Need-slice-aggregate-refine-at
+slice-aggregate-refine-at c = search needs
 
-slice-aggregate-best-index-2 : tie.Need-slice-aggregate-best-index-2
-slice-aggregate-best-index-2 c = search needs
+slice-aggregate-refine-at-2 : tie.Need-slice-aggregate-refine-at-2
+slice-aggregate-refine-at-2 c = search needs
 
 array-borrow-prefix-x : tie.Need-array-borrow-prefix-x
 array-borrow-prefix-x c =
@@ -79,16 +78,16 @@ array-borrow-prefix-x c =
     let z : k .result .number ≡ 0 = omega arith in
     omega (arith, k .ensures .passed z .fewStages, k .ensures .passed z .fewSegments)
 
-slice-aggregate-best-index-3 : tie.Need-slice-aggregate-best-index-3
-slice-aggregate-best-index-3 c =
+slice-aggregate-refine-at-3 : tie.Need-slice-aggregate-refine-at-3
+slice-aggregate-refine-at-3 c =
     let b = c .before .before .before .before .before .before .before .before .before .before .before .before .before .before .before .before .before .before in
     let k = c .before .before .before .before .before .before .before .before .before .before .before .before .before .check in
     let z : k .result .number ≡ 0 = omega arith in
     let h : places (netBy (k .result .counts) (b .args .job .now)) ≤ 68 = omega (arith, k .ensures .passed z .fewStages, k .ensures .passed z .fewSegments) in
     sym (length-take-le (places (netBy (k .result .counts) (b .args .job .now))) (replicate 68 0) h)
 
-best-index-requires : tie.Need-best-index-requires
-best-index-requires c κs =
+refine-at-requires : tie.Need-refine-at-requires
+refine-at-requires c κs =
     let b = c .before .before .before .before .before .before .before .before .before .before .before .before .before .before .before .before .before .before in
     let k = c .before .before .before .before .before .before .before .before .before .before .before .before .before .check in
     let z : k .result .number ≡ 0 = omega arith in
@@ -115,8 +114,8 @@ returns-4 c =
     let k = c .before .before .before .before .before .before .before .before .before .before .before .before .before .before .before .check in
     let z : k .result .number ≡ 0 = omega arith in
     let y : c .before .before .before .before .before .before .before .before .before .sizing-number .result ≡ 0 = omega arith in (
-      refine-answer (b .args .job .now) (b .args .sizing .now) (k .ensures .passed z) (sym (k .ensures .number) ∙ z) (b .args .place) (sideOf (b .args .side)) (c .before .best-index .result) (sym (c .before .before .before .before .before .before .before .before .before .sizing-number .ensures) ∙ y) (omega arith)
-          (c .before .best-index .ensures),
+      refine-answer (b .args .job .now) (b .args .sizing .now) (k .ensures .passed z) (sym (k .ensures .number) ∙ z) (b .args .place) (c .before .refine-at .result) (sym (c .before .before .before .before .before .before .before .before .before .sizing-number .ensures) ∙ y) (omega arith)
+          (c .before .refine-at .ensures),
       tt,
     )
 
@@ -133,9 +132,9 @@ refine-spec =
     add-places
     returns-3
     slice-aggregate-held
-    slice-aggregate-best-index
-    slice-aggregate-best-index-2
+    slice-aggregate-refine-at
+    slice-aggregate-refine-at-2
     array-borrow-prefix-x
-    slice-aggregate-best-index-3
-    best-index-requires
+    slice-aggregate-refine-at-3
+    refine-at-requires
     returns-4)

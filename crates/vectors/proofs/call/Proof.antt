@@ -32,20 +32,17 @@ read-byte-requires c κs = search needs
 value-requires : tie.Need-value-requires
 value-requires c κs = search needs
 
-read-byte-requires-2 : tie.Need-read-byte-requires-2
-read-byte-requires-2 c κs = search needs
-
 slice-reshare-prefix-refine-line : tie.Need-slice-reshare-prefix-refine-line
 slice-reshare-prefix-refine-line c = search needs
 
 slice-aggregate-refine-line : tie.Need-slice-aggregate-refine-line
-slice-aggregate-refine-line c = sym (length-take-le (c .before .before .before .before .before .before .before .before .before .before .before .before .read-slice .result) (c .before .before .before .before .before .before .before .before .before .before .before .before .read-slice .last .0) (c .before .before .before .before .before .before .before .before .before .before .before .before .read-slice .ensures))
+slice-aggregate-refine-line c = sym (length-take-le (c .before .before .before .before .before .before .before .before .before .before .before .read-slice .result) (c .before .before .before .before .before .before .before .before .before .before .before .read-slice .last .0) (c .before .before .before .before .before .before .before .before .before .before .before .read-slice .ensures))
 
 slice-reshare-prefix-refine-line-2 : tie.Need-slice-reshare-prefix-refine-line-2
 slice-reshare-prefix-refine-line-2 c = search needs
 
 slice-aggregate-refine-line-2 : tie.Need-slice-aggregate-refine-line-2
-slice-aggregate-refine-line-2 c = sym (length-take-le (c .before .before .before .before .before .before .before .before .before .read-slice2 .result) (c .before .before .before .before .before .before .before .before .before .read-slice2 .last .0) (c .before .before .before .before .before .before .before .before .before .read-slice2 .ensures))
+slice-aggregate-refine-line-2 c = sym (length-take-le (c .before .before .before .before .before .before .before .before .read-slice2 .result) (c .before .before .before .before .before .before .before .before .read-slice2 .last .0) (c .before .before .before .before .before .before .before .before .read-slice2 .ensures))
 
 refine-line-requires : tie.Need-refine-line-requires
 refine-line-requires c κs = search needs
@@ -141,7 +138,6 @@ call-spec =
     measure-line-requires
     read-byte-requires
     value-requires
-    read-byte-requires-2
     slice-reshare-prefix-refine-line
     slice-aggregate-refine-line
     slice-reshare-prefix-refine-line-2
