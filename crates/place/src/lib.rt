@@ -227,6 +227,26 @@ fn segment_step(
 }
 
 // The step of place p to the index k, where it has the weight `weight`, the resistance `upstream` before it and the load `driven` behind it.
+pub fn step_to(
+    job: &[u8],
+    counts: Counts,
+    weight: u64,
+    upstream: Resistance,
+    p: usize,
+    k: usize,
+    driven: Capacitance,
+) -> PlaceStep
+    requires { ⌜ Checked counts (now job) ⌝ }
+    requires { ⌜ StepInLimits counts (now job) weight (upstream .0) p k (driven .0) ⌝ }
+    ensures { λ r. ⌜ Stepped counts (now (job .entry)) weight (upstream .0) p k (driven .0) r ⌝ }
+{
+    if p < counts.stages {
+        return stage_step(job, counts, weight, upstream, p, k, driven);
+    }
+    segment_step(job, counts, weight, upstream, p - counts.stages, k, driven)
+}
+
+// The same, where the index is a byte.
 pub fn step(
     job: &[u8],
     counts: Counts,
@@ -240,17 +260,5 @@ pub fn step(
     requires { ⌜ StepInLimits counts (now job) weight (upstream .0) p k (driven .0) ⌝ }
     ensures { λ r. ⌜ Stepped counts (now (job .entry)) weight (upstream .0) p k (driven .0) r ⌝ }
 {
-    let index = job::index(k);
-    if p < counts.stages {
-        return stage_step(job, counts, weight, upstream, p, index, driven);
-    }
-    segment_step(
-        job,
-        counts,
-        weight,
-        upstream,
-        p - counts.stages,
-        index,
-        driven,
-    )
+    step_to(job, counts, weight, upstream, p, job::index(k), driven)
 }

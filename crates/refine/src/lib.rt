@@ -27,14 +27,14 @@ pub fn settle(
     requires { ⌜ SettleInLimits counts weight (upstream .0) place (driven .0) ⌝ }
     ensures { λ r. ⌜ Settled (netBy counts (now (job .entry))) weight (upstream .0) place (driven .0) r ⌝ }
 {
-    let top = job::highest(job, counts, place);
-    let mut k = job::lowest(job, counts, place);
+    let top = job::index(job::highest(job, counts, place));
+    let mut k = job::index(job::lowest(job, counts, place));
     let mut lowest = k;
     let mut highest = k;
-    let mut least = place::step(job, counts, weight, upstream, place, k, driven).delay;
+    let mut least = place::step_to(job, counts, weight, upstream, place, k, driven).delay;
     while k < top {
         k += 1;
-        let cost = place::step(job, counts, weight, upstream, place, k, driven).delay;
+        let cost = place::step_to(job, counts, weight, upstream, place, k, driven).delay;
         if cost.0 < least.0 {
             least = cost;
             lowest = k;
@@ -44,7 +44,7 @@ pub fn settle(
         }
     }
     Ends {
-        lowest: lowest,
-        highest: highest,
+        lowest: lowest as u8,
+        highest: highest as u8,
     }
 }
