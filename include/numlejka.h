@@ -35,8 +35,8 @@
  *
  * Buffers. A buffer is a pointer to its first byte and its length in bytes. The pointer of a buffer of length 0 may be
  * null: nothing is read or written through it. Every other pointer points to as many bytes as its length says, and a
- * pointer without a length to one value; none of these may be null. What a function writes to (delay, load, best,
- * reply) overlaps no other argument of the call. Buffers that are only read may overlap each other.
+ * pointer without a length to one value; none of these may be null. What a function writes to (delay, load, lowest,
+ * highest, reply) overlaps no other argument of the call. Buffers that are only read may overlap each other.
  *
  * Refusals. A call that returns a number other than 0 leaves all memory of the caller as it was. The one exception is
  * numlejka_size with 14, which writes a reply of bounds.
@@ -45,8 +45,8 @@
  * nothing writes to a buffer that a running call reads, and nothing uses a buffer that a running call writes to.
  *
  * Stack. A call needs at most 24 KiB of stack. Measured on painted stacks, on x86-64 Linux, with a chain of 64 segments
- * behind 4 stages and 16 places free, the deepest net and the deepest search that there are: measure and choose 19 KiB,
- * size 13 KiB, refine 3 KiB. The rest is margin; it covers what the dynamic linker may use when the C library's memcpy is
+ * behind 4 stages and 16 places free, the deepest net and the deepest search that there are: refine 21 KiB, measure and
+ * choose 19 KiB, size 13 KiB. The rest is margin; it covers what the dynamic linker may use when the C library's memcpy is
  * called for the first time (3 KiB more). tests/tests/stack.rs measures it again.
  *
  * Time. A call ends on every input. How long it takes depends on the job and is not promised.
@@ -75,13 +75,14 @@ size_t numlejka_measure(const uint8_t *job, size_t job_length,
                         uint64_t *delay, uint64_t *load);
 
 /*
- * Finds the best index at one place, the rest of the sizing held: the index that gives the smallest delay, and of
- * several such the smallest where above is 0, the largest where above is any other value. Returns the number; with 0
- * the index is in *best, with every other number *best is as it was.
+ * Finds the best indices at one place, the rest of the sizing held: the allowed indices that give the smallest delay.
+ * Returns the number; with 0 the smallest of them is in *lowest, the largest in *highest, and in *delay the scaled delay
+ * of the sizing with either of the two put at the place: it is the same. The two are equal exactly when one index alone
+ * is best; an index between them need not be. With every other number all three are as they were.
  */
 size_t numlejka_refine(const uint8_t *job, size_t job_length,
                        const uint8_t *sizing, size_t sizing_length,
-                       size_t place, uint8_t above, uint8_t *best);
+                       size_t place, uint8_t *lowest, uint8_t *highest, uint64_t *delay);
 
 /*
  * Tells which of two sizings has the smaller delay. Returns 1 for x, also at a tie, 2 for y, and 0 where the job or

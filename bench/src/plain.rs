@@ -50,29 +50,28 @@ struct Tie {
 }
 
 impl Tie {
-    /// Both ends among the indices from `low` to `high`, in one pass.
+    /// Both ends among the indices from `low` to `high`, in one pass. They are kept as wide as a register meanwhile.
     #[inline(always)]
     fn among(low: u8, high: u8, mut cost: impl FnMut(u8) -> u64) -> Tie {
+        let (mut lowest, mut highest) = (u64::from(low), u64::from(low));
+        let mut least = cost(low);
         let mut k = low;
-        let mut tie = Tie {
-            lowest: k,
-            highest: k,
-            cost: cost(k),
-        };
         while k < high {
             k += 1;
             let cost = cost(k);
-            if cost < tie.cost {
-                tie = Tie {
-                    lowest: k,
-                    highest: k,
-                    cost,
-                };
-            } else if cost == tie.cost {
-                tie.highest = k;
+            if cost < least {
+                least = cost;
+                lowest = k.into();
+                highest = k.into();
+            } else if cost == least {
+                highest = k.into();
             }
         }
-        tie
+        Tie {
+            lowest: lowest as u8,
+            highest: highest as u8,
+            cost: least,
+        }
     }
 
     fn end(self, side: Side) -> u8 {

@@ -50,7 +50,7 @@ module _ (b : List ℕ) (e : refusal b ≡ 0) where
   pub equal-when-one : (lean (netOf b) ≡ wide (netOf b)) ↔ ((x y : List ℕ) → LeastDelaySizing (netOf b) x → LeastDelaySizing (netOf b) y → x ≡ y)
   equal-when-one = only-one (allowed-lattice (netOf b)) (job-submodular b e) (lowestSizing (netOf b)) (job-allowed b e)
 
-  -- refine from below leaves the lower bound, which is below every sizing that it leaves; from above likewise
+  -- refining from below leaves the lower bound, which is below every sizing that it leaves; from above likewise
   pub lowerBound-fixed : Fixed below (allowed (netOf b)) (delay (netOf b)) (lowerBound (netOf b))
   lowerBound-fixed = lower-fixed (allowed-lattice (netOf b)) (job-submodular b e) (lowestSizing (netOf b)) (job-allowed b e)
 

@@ -29,8 +29,8 @@ module _ (net : Net) where
   abbrev pub wide : List ℕ
   wide = least.wide (allowed net) (delay net)
 
-  -- The lower and the upper bound: the least, place by place, of the sizings that refine from below leaves as they are at every place, and the
-  -- greatest of those that refine from above leaves.
+  -- The lower and the upper bound: the least, place by place, of the sizings that refining from below leaves as they are at every place, and
+  -- the greatest of those that refining from above leaves.
   abbrev pub lowerBound : List ℕ
   lowerBound = refining.lower (allowed net) (delay net)
 

@@ -124,10 +124,11 @@ fn refine_at(
     let ends = settle_at(job, counts, first, next, sizing, place);
     bytes::copy(sizing, x);
     x[place] = ends.lowest;
+    let reached = &x[..];
     EndsAndDelay {
         lowest: ends.lowest,
         highest: ends.highest,
-        delay: elmore::delay(job, counts, first, next, x),
+        delay: elmore::delay(job, counts, first, next, reached),
     }
 }
 

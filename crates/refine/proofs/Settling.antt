@@ -30,10 +30,10 @@ use Rattle.refine.specs.Settled.{endOf, Settled, EndsAt}
 
 -- the ends that a loop over all indices of a place has found
 pub scanned-settled : (net : Net) (w u p d : ℕ) (r : Ends) (k least : ℕ) → Scanned (net .lowest p) (cost net w u p d) k (r .lowest) (r .highest) least
-    → k ≡ net .highest p → Settled net w u p d r
+    → k ≡ suc (net .highest p) → Settled net w u p d r
 scanned-settled net w u p d r k least i e = record { ends = λ s. go s }
   where
-    go : (s : Side) → Cheapest s (net .lowest p) (net .highest p) (cost net w u p d) (endOf s r)
+    go : (s : Side) → Cheapest s (net .lowest p) (suc (net .highest p)) (cost net w u p d) (endOf s r)
     go below = rw (← e) (i .low)
     go above = rw (← e) (i .high)
 
@@ -53,14 +53,14 @@ module _ (net : Net) (o : Ordered net) (l : Limited net) (weights upstream x : L
   cost-trades i j = rw (w .held p (omega arith) few, e) (traded net (o .parents) x (allowed-long net x a) p few upstream u i j)
 
   -- the indices of the range are those that keep the sizing allowed
-  range : (j : ℕ) → Allowed (allowed net) (set x p j) ↔ ((net .lowest p ≤ j) × (j ≤ net .highest p))
+  range : (j : ℕ) → Allowed (allowed net) (set x p j) ↔ ((net .lowest p ≤ j) × (j < suc (net .highest p)))
   range j = (
     λ b. let y = allowed-iff net (set x p j) .0 b in let here = getD-set-same x p j 0 (omega (arith, allowed-long net x a)) in (omega (arith, here, y .low p few), omega (arith, here, y .high p few)),
-    λ h. allowed-iff net (set x p j) .1 (boxed-set (places net) _ _ x p j (allowed-iff net x .0 a) (h .0) (h .1)),
+    λ h. allowed-iff net (set x p j) .1 (boxed-set (places net) _ _ x p j (allowed-iff net x .0 a) (h .0) (omega (arith, h .1))),
   )
 
   -- so the ends that settling finds are those of the sizing
   pub settled-ends : (r : Ends) → Settled net (at weights p) (at upstream p) p d r → EndsAt net x p r
   unfolding within
   settled-ends r i =
-      record { ends = λ s. cheapest-best (allowed-lattice net) (delay net) x a p few (net .lowest p) (net .highest p) range _ cost-trades s (endOf s r) (i .ends s) }
+      record { ends = λ s. cheapest-best (allowed-lattice net) (delay net) x a p few (net .lowest p) (suc (net .highest p)) range _ cost-trades s (endOf s r) (i .ends s) }

@@ -1,7 +1,7 @@
 -- Both ends of the tie at a place: by what its indices cost, and as the best indices of a sizing.
 use mathlib.Core.Path.{_≡_}
 use mathlib.Core.List.{List}
-use Prim.Native.Nat.{ℕ, _≤_, _<_}
+use Prim.Native.Nat.{ℕ, suc, _≤_, _<_}
 use Rattle.lattice.specs.Side.{Side, below, above}
 use Rattle.lattice.specs.Cheapest.{Cheapest}
 use Rattle.lattice.specs.Refine.{best}
@@ -24,7 +24,7 @@ SettleInLimits c w u p d = (p < placesBy c) × (w ≤ 32640) × (u ≤ 443904000
 
 -- r has the ends of the tie among the indices of place p that cost least.
 pub record Settled (net : Net) (w u p d : ℕ) (r : Ends) : Type 0 where
-  pub ends : (s : Side) → Cheapest s (net .lowest p) (net .highest p) (cost net w u p d) (endOf s r)
+  pub ends : (s : Side) → Cheapest s (net .lowest p) (suc (net .highest p)) (cost net w u p d) (endOf s r)
 
 -- r has the ends of the tie at place p of x: its smallest and its largest best index, the rest of x held.
 pub record EndsAt (net : Net) (x : List ℕ) (p : ℕ) (r : Ends) : Type 0 where

@@ -28,12 +28,10 @@ pub fn settle(
     ensures { λ r. ⌜ Settled (netBy counts (now (job .entry))) weight (upstream .0) place (driven .0) r ⌝ }
 {
     let top = job::index(job::highest(job, counts, place));
-    let mut k = job::index(job::lowest(job, counts, place));
-    let mut lowest = k;
-    let mut highest = k;
-    let mut least = place::step_to(job, counts, weight, upstream, place, k, driven).delay;
-    while k < top {
-        k += 1;
+    let mut lowest = job::index(job::lowest(job, counts, place));
+    let mut highest = lowest;
+    let mut least = place::step_to(job, counts, weight, upstream, place, lowest, driven).delay;
+    for k in lowest + 1..top + 1 {
         let cost = place::step_to(job, counts, weight, upstream, place, k, driven).delay;
         if cost.0 < least.0 {
             least = cost;

@@ -1,5 +1,6 @@
 -- `refine::settle` meets its contract: the loop knows both ends of the tie among the indices that it has tried.
 use mathlib.Core.Path.{_∙_}
+use mathlib.Core.Logic.{⊎-elim}
 use borrow.Author.Needs.{needs}
 use native.Mathlib.Omega.{arith}
 use Prim.Native.Nat.{_-_, _≤_}
@@ -11,11 +12,11 @@ use Rattle.refine.proofs.settle.Statement.{statement}
 use Rattle.refine.proofs.settle.Tie as tie
 
 abbrev Inv-loop : tie.InvT-loop
-Inv-loop job counts weight upstream place driven top k₀ lowest₀ highest₀ least₀ k lowest highest least =
-    Scanned (netBy counts job .lowest place) (cost (netBy counts job) weight (upstream .0) place (driven .0)) k lowest highest (least .0) × (k ≤ top)
+Inv-loop job counts weight upstream place driven top lowest₀ highest₀ least₀ k₀ k-end lowest highest least k =
+    Scanned (netBy counts job .lowest place) (cost (netBy counts job) weight (upstream .0) place (driven .0)) k lowest highest (least .0) × (k ≤ k-end)
 
 abbrev μ-loop : tie.MeasureT-loop
-μ-loop job counts weight upstream place driven top k₀ lowest₀ highest₀ least₀ k lowest highest least = top - k
+μ-loop job counts weight upstream place driven top lowest₀ highest₀ least₀ k₀ k-end lowest highest least k = k-end - k
 
 highest-requires : tie.Need-highest-requires Inv-loop μ-loop
 highest-requires c κs = search needs
@@ -34,6 +35,12 @@ step-to-requires c κs =
     let b = c .before .before .before .before .before in
     (b .pre .0, (b .pre .1 .0, omega (arith, c .index2 .ensures, c .before .lowest .ensures, b .pre .0 .ranges (b .args .place) (b .pre .1 .0)), b .pre .1 .1, b .pre .1 .2, b .pre .1 .3))
 
+add-k : tie.Need-add-k Inv-loop μ-loop
+add-k c = search needs
+
+add-k-end : tie.Need-add-k-end Inv-loop μ-loop
+add-k-end c = search needs
+
 loop-holds : tie.Need-loop-holds Inv-loop μ-loop
 loop-holds c =
     let b = c .before .before .before .before .before .before .before in
@@ -43,13 +50,13 @@ loop-holds c =
       omega (arith, low, c .before .before .before .before .index .ensures, c .before .before .before .before .before .highest .ensures, b .pre .0 .ranges p (b .pre .1 .0)),
     )
 
-add-k : tie.Need-add-k Inv-loop μ-loop
-add-k c = search needs
-
 step-to-requires-2 : tie.Need-step-to-requires-2 Inv-loop μ-loop
 step-to-requires-2 c κs =
     let b = c .before .before .before .before .before .before .before .before .before in
     (b .pre .0, (b .pre .1 .0, omega (arith, c .loop-test .taken, c .before .before .before .before .before .before .index .ensures, c .before .before .before .before .before .before .before .highest .ensures), b .pre .1 .1, b .pre .1 .2, b .pre .1 .3))
+
+add-k-2 : tie.Need-add-k-2 Inv-loop μ-loop
+add-k-2 c = search needs
 
 loop-less : tie.Need-loop-less Inv-loop μ-loop
 loop-less c = search needs
@@ -57,29 +64,17 @@ loop-less c = search needs
 loop-again : tie.Need-loop-again Inv-loop μ-loop
 loop-again c =
     let l = c .before .before .before .before .before .before .loop in
-    (scan-less _ _ _ _ _ _ (l .inv .0) _ (c .before .before .before .before .step-to2 .ensures .delay) (c .if1 .taken), omega (arith, c .before .before .before .before .before .loop-test .taken))
-
-loop-less-2 : tie.Need-loop-less-2 Inv-loop μ-loop
-loop-less-2 c = search needs
-
-loop-again-2 : tie.Need-loop-again-2 Inv-loop μ-loop
-loop-again-2 c =
-    let l = c .before .before .before .before .before .before .before .before .before .loop in
-    (scan-tie _ _ _ _ _ _ (l .inv .0) _ (c .before .before .before .before .before .before .before .step-to2 .ensures .delay) (c .if2 .taken), omega (arith, c .before .before .before .before .before .before .before .before .loop-test .taken))
-
-loop-less-3 : tie.Need-loop-less-3 Inv-loop μ-loop
-loop-less-3 c = search needs
-
-loop-again-3 : tie.Need-loop-again-3 Inv-loop μ-loop
-loop-again-3 c =
-    let l = c .before .before .before .before .before .before .before .before .before .loop in
-    (scan-more _ _ _ _ _ _ (l .inv .0) _ (c .before .before .before .before .before .before .before .step-to2 .ensures .delay) (omega arith), omega (arith, c .before .before .before .before .before .before .before .before .loop-test .taken))
+    let e = c .before .before .before .before .step-to2 .ensures .delay in (
+      ⊎-elim (λ w. rw (w .1, w .2, w .3) (scan-less _ _ _ _ _ _ (l .inv .0) _ e (w .0 .taken)))
+          (⊎-elim (λ w. rw (w .4, w .5, w .6) (scan-tie _ _ _ _ _ _ (l .inv .0) _ e (w .3 .taken))) (λ w. rw (w .4, w .5, w .6) (scan-more _ _ _ _ _ _ (l .inv .0) _ e (omega (arith, w .0 .left, w .3 .left))))) (c .if1 .came),
+      omega (arith, c .before .before .before .before .before .loop-test .taken),
+    )
 
 cast-t13 : tie.Need-cast-t13 Inv-loop μ-loop
 cast-t13 c = omega (arith, c .before .loop .inv .0 .low .high, c .before .loop .inv .1, c .before .before .before .before .before .before .index .ensures)
 
-cast-t18 : tie.Need-cast-t18 Inv-loop μ-loop
-cast-t18 c = omega (arith, c .before .loop .inv .0 .high .high, c .before .loop .inv .1, c .before .before .before .before .before .before .index .ensures)
+cast-t19 : tie.Need-cast-t19 Inv-loop μ-loop
+cast-t19 c = omega (arith, c .before .loop .inv .0 .high .high, c .before .loop .inv .1, c .before .before .before .before .before .before .index .ensures)
 
 returns : tie.Need-returns Inv-loop μ-loop
 returns c =
@@ -98,15 +93,13 @@ settle-spec =
     lowest-requires
     index-requires-2
     step-to-requires
-    loop-holds
     add-k
+    add-k-end
+    loop-holds
     step-to-requires-2
+    add-k-2
     loop-less
     loop-again
-    loop-less-2
-    loop-again-2
-    loop-less-3
-    loop-again-3
     cast-t13
-    cast-t18
+    cast-t19
     returns)
