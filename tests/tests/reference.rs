@@ -2,9 +2,9 @@
 
 use numlejka_tests::batches::{Counts, MOST_ALLOWED, count, damaged_calls, limit_calls, room_calls, small_calls, worked_calls};
 use numlejka_tests::calls::Call;
-use numlejka_tests::generate::{large_plan, marked, small_plan};
+use numlejka_tests::generate::{allowed_sizing, large_plan, marked, small_plan};
 use numlejka_tests::limits::{largest_plans, limits};
-use numlejka_tests::plan::Plan;
+use numlejka_tests::plan::{Plan, segment_with_sink};
 use numlejka_tests::questions::{Net, first_no, read};
 use numlejka_tests::random::{Random, SEED};
 use numlejka_tests::reference::{
@@ -88,6 +88,44 @@ fn j4_measures_refines_and_sizes() {
     .concat();
     assert_eq!(reply[..32], records);
     assert_eq!(reply[32..], marked(35)[32..]);
+}
+
+/// Both ends of a tie reach its delay, and an index between them may be worse.
+#[test]
+fn an_index_between_the_ends_may_be_worse() {
+    let plan = Plan {
+        widths: vec![[3, 3], [2, 4], [1, 5]],
+        sizes: vec![[1, 1, 1]],
+        stages: vec![[0, 0]],
+        segments: vec![segment_with_sink(0, 1, 0, 1, [0, 2])],
+    };
+    assert_eq!(refine(&plan.bytes(), &[0, 1], 1).tie, tie(0, 2, 17));
+    assert_eq!([0, 1, 2].map(|index| delay(&plan, &[0, index])), [17, 18, 17]);
+}
+
+/// Either end of a tie reaches the delay that is answered, and no index of the place a smaller one.
+#[test]
+fn both_ends_reach_the_delay() {
+    let mut random = Random::new(5);
+    let mut ties = 0;
+    for _ in 0..2_000 {
+        let plan = small_plan(&mut random, 1_024);
+        let (job, sizing) = (plan.bytes(), allowed_sizing(&mut random, &plan));
+        for (place, [lowest, highest]) in plan.ranges().into_iter().enumerate() {
+            let found = refine(&job, &sizing, place).tie;
+            let with = |index: u8| {
+                let mut put = sizing.clone();
+                put[place] = index;
+                measure(&job, &put).delay
+            };
+            assert_eq!([with(found.lowest), with(found.highest)], [found.delay; 2]);
+            assert!((lowest..=highest).all(|index| with(index) >= found.delay));
+            assert!((lowest..=highest).all(|index| with(index) > found.delay || (found.lowest..=found.highest).contains(&index)));
+            ties += usize::from(found.lowest < found.highest);
+        }
+    }
+    println!("{ties} ties");
+    assert!(ties > 1_000);
 }
 
 /// J5: 155, and not the 180 of a segment charged with all of its capacitance.

@@ -159,6 +159,25 @@ fn both_ends_of_a_tie() {
 }
 
 #[test]
+fn an_index_between_the_ends_may_be_worse() {
+    let job = job(&[
+        width(0, 3, 3),
+        width(1, 2, 4),
+        width(2, 1, 5),
+        driver(0, 1, 1, 1),
+        stage(0, 0, 0),
+        segment(0, 0, 1, 0, 1, 2),
+    ]);
+    let Refined {
+        lowest,
+        highest,
+        delay: reached,
+    } = refine(&job, &[0, 1], 1).unwrap();
+    assert_eq!((lowest, highest, reached), (0, 2, 17));
+    assert_eq!([0, 1, 2].map(|k| delay(&job, &[0, k])), [17, 18, 17]);
+}
+
+#[test]
 fn chosen_part_is_the_callers_own() {
     let (x, y) = ([0, 0, 7], [0, 1]);
     assert!(std::ptr::eq(choose(&j1(), &x, &y).unwrap(), &y[..]));
