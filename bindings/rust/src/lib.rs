@@ -5,7 +5,7 @@
 //! fails.
 //!
 //! ```
-//! use numlejka::{measure, size, Reply};
+//! use numlejka::{measure, refine, size, Reply};
 //!
 //! // Two widths, one driver size, one stage, and a segment of length 1 with a sink of capacitance 5 and weight 1.
 //! let job = [
@@ -16,6 +16,8 @@
 //!     4, 0, 0, 1, 1, 0, 0, 0, 5, 0, 0, 0, 1, 0, 1, 0,
 //! ];
 //! assert_eq!(measure(&job, &[0, 0]).unwrap().delay, 208);
+//! let best = refine(&job, &[0, 0], 1).unwrap();
+//! assert_eq!((best.lowest, best.highest, best.delay), (1, 1, 206));
 //! let Reply::Finished { delay, places } = size(&job) else { panic!() };
 //! assert_eq!(delay, 206);
 //! assert_eq!(places[1].lean, 1);
