@@ -45,8 +45,8 @@
  * nothing writes to a buffer that a running call reads, and nothing uses a buffer that a running call writes to.
  *
  * Stack. A call needs at most 24 KiB of stack. Measured on painted stacks, on x86-64 Linux, with a chain of 64 segments
- * behind 4 stages and 16 places free, the deepest net and the deepest search that there are: refine 21 KiB, measure and
- * choose 19 KiB, size 13 KiB. The rest is margin; it covers what the dynamic linker may use when the C library's memcpy is
+ * behind 4 stages and 16 places free, the deepest net and the deepest search that there are: measure and choose 19 KiB,
+ * size 13 KiB, refine 3 KiB. The rest is margin; it covers what the dynamic linker may use when the C library's memcpy is
  * called for the first time (3 KiB more). tests/tests/stack.rs measures it again.
  *
  * Time. A call ends on every input. How long it takes depends on the job and is not promised.
@@ -78,7 +78,7 @@ size_t numlejka_measure(const uint8_t *job, size_t job_length,
  * Finds the best indices at one place, the rest of the sizing held: the allowed indices that give the smallest delay.
  * Returns the number; with 0 the smallest of them is in *lowest, the largest in *highest, and in *delay the scaled delay
  * of the sizing with either of the two put at the place: it is the same. The two are equal exactly when one index alone
- * is best; an index between them need not be. With every other number all three are as they were.
+ * is best; an index between them need not be a best one. With every other number all three are as they were.
  */
 size_t numlejka_refine(const uint8_t *job, size_t job_length,
                        const uint8_t *sizing, size_t sizing_length,

@@ -36,7 +36,7 @@ pub struct Links {
 
 /// The end of a tie that refining takes.
 #[derive(Clone, Copy, PartialEq, Eq)]
-pub enum Side {
+enum Side {
     Below,
     Above,
 }
@@ -74,6 +74,7 @@ impl Tie {
         }
     }
 
+    /// The end that a side takes.
     fn end(self, side: Side) -> u8 {
         match side {
             Side::Below => self.lowest,
@@ -493,14 +494,22 @@ impl Sums {
         };
     }
 
+    /// What a place adds at an index, with what its load costs upstream.
+    #[inline(always)]
+    fn cost(&self, net: &Net, p: usize, k: u8) -> u64 {
+        let step = net.step(self.weights[p], net.length(p), k, self.driven[p]);
+        step.delay + self.upstream[p] * step.load
+    }
+
     /// The tie at a place, the rest held.
     fn settled(&self, net: &Net, p: usize) -> Tie {
-        let (weight, driven, upstream) = (self.weights[p], self.driven[p], self.upstream[p]);
-        let length = net.length(p);
-        Tie::among(net.lowest(p), net.highest(p), |k| {
-            let step = net.step(weight, length, k, driven);
-            step.delay + upstream * step.load
-        })
+        Tie::among(net.lowest(p), net.highest(p), |k| self.cost(net, p, k))
+    }
+
+    /// The scaled delay of a sizing whose places are all held.
+    fn delay(&self, net: &Net, x: &[u8]) -> u64 {
+        let own = |p: usize| net.step(self.weights[p], net.length(p), x[p], self.driven[p]).delay;
+        (0..x.len()).map(own).sum()
     }
 
     /// The bound from a side, by sweeps until nothing changes.
@@ -769,9 +778,8 @@ fn refine_by(job: &[u8], sizing: &[u8], place: usize, way: Way) -> Result<Refine
                 sums.go_upstream(&net, x, x, p);
             }
             let tie = sums.settled(&net, place);
-            x[place] = tie.lowest;
             Tie {
-                cost: net.delay::<false>(&links, x).0,
+                cost: sums.delay(&net, x) + tie.cost - sums.cost(&net, place, x[place]),
                 ..tie
             }
         }

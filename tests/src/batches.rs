@@ -23,7 +23,7 @@ pub const ONE_BEST: &str = "refine with one best index";
 pub const TIE: &str = "refine with a tie";
 pub const TIE_AT_0: &str = "refine with a tie at 0";
 
-/// How often each operation returned each number.
+/// How often each operation returned each number, and what refine met.
 pub type Counts = BTreeMap<(&'static str, u64), usize>;
 
 /// The name of a call's operation.
@@ -78,11 +78,12 @@ fn a_refine(random: &mut Random, job: &[u8], plan: &Plan) -> Call {
     let length = random.pick(&[10, 10, 10, 11, 18, 12]);
     let sizing = any_sizing(random, plan);
     let place = any_place(random, plan.places());
+    let mark = random.byte();
     Call::Refine {
         job: job.to_vec(),
         sizing,
         place,
-        ends: vec![random.byte(); length],
+        ends: (0..length).map(|i| mark.wrapping_add(i as u8)).collect(),
     }
 }
 

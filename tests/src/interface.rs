@@ -4,7 +4,7 @@ use numlejka::c::{numlejka_choose, numlejka_measure, numlejka_refine, numlejka_s
 
 use crate::calls::{Call, Outcome};
 
-/// What the parameters hold before a call, so that a refusal that writes is seen.
+/// What the parameters of measure hold before a call, so that a refusal that writes is seen.
 const DELAY_BEFORE: u64 = 0x0123_4567_89ab_cdef;
 const LOAD_BEFORE: u64 = 0xfedc_ba98_7654_3210;
 

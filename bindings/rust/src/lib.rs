@@ -36,7 +36,8 @@ pub struct Figures {
 }
 
 /// The best indices at a place, the rest of a sizing held: the smallest, the largest, and the scaled delay of the sizing
-/// with either of them put there. They are equal exactly when one index is best; an index between them need not be.
+/// with either of the two put there. The two indices are equal exactly when one index alone is best; an index between
+/// them need not be a best one.
 #[derive(Clone, Copy, Debug, PartialEq, Eq)]
 pub struct Refined {
     pub lowest: u8,

@@ -27,7 +27,7 @@ use Rattle.place.specs.Held.{hangsAt, before, onward, DrivenFrom, UpstreamTo}
 use Rattle.place.proofs.Driving.{driven-all}
 use Rattle.place.proofs.Upstream.{before-start, before-step, onward-reads, upstream-reads}
 use Rattle.refine.specs.declared.Ends.{Ends}
-use Rattle.refine.specs.Settled.{endOf, Settled, EndsAt}
+use Rattle.refine.specs.Settled.{endFrom, Settled, EndsAt}
 use Rattle.refine.proofs.Settling.{figures-small, settled-ends}
 use Rattle.bounds.specs.Sweep.{Swept}
 
@@ -94,12 +94,12 @@ module _ (net : Net) (o : Ordered net) (s : Side) (x₀ : List ℕ) where
 
   module _ (p : ℕ) (few : p < places net) (x upstream : List ℕ) (changed : Bool) (i : Sweeping net s x₀ p x upstream changed) where
     -- the place drives what it drove when the sweep began
-    pub drives-yet : (driven : List ℕ) → DrivenFrom net x₀ x₀ 0 driven → at driven p ≡ drivenLoad net x p
+    drives-yet : (driven : List ℕ) → DrivenFrom net x₀ x₀ 0 driven → at driven p ≡ drivenLoad net x p
     drives-yet driven d =
         driven-all net o x₀ driven d p few ∙ driven-reads net (o .parents) x₀ x p few (λ q l m. sym (i .later q (omega arith) m))
 
     module _ (v : ℕ) (e : v ≡ before (onward net x x upstream) (hangsAt net p)) where
-      pub known-more : UpstreamTo net x x (suc p) (set upstream p v)
+      known-more : UpstreamTo net x x (suc p) (set upstream p v)
       known-more = let z : p + 1 ≡ suc p = omega arith in rw z at (before-step net o _ (onward-reads net x x) upstream p v few (i .known) e)
 
       -- what settling the place finds: both ends of its tie
@@ -115,7 +115,7 @@ module _ (net : Net) (o : Ordered net) (s : Side) (x₀ : List ℕ) where
             settled-ends net o l weights (set upstream p v) x w (i .swept .approaching .allowed) p (at driven p) few known-more (drives-yet driven d) r (rw here t)
 
       -- the end that is taken from s is put
-      pub sweeping-step : (r : Ends) (b : ℕ) → EndsAt net x p r → b ≡ endOf s r
+      pub sweeping-step : (r : Ends) (b : ℕ) → EndsAt net x p r → b ≡ endFrom s r
           → Sweeping net s x₀ (p + 1) (set x p b) (set upstream p v) (changed || not (eqb b (at x p)))
       unfolding within
       sweeping-step r b f g =

@@ -10,7 +10,7 @@ ghost use Rattle.net.specs.Net.{netBy};
 ghost use Rattle.net.specs.Checked.{Checked, ForPlaces};
 ghost use Rattle.lattice.specs.SideOf.{sideOf};
 ghost use Rattle.place.specs.ByCounts.{Weighed};
-ghost use Rattle.refine.specs.Settled.{endOf};
+ghost use Rattle.refine.specs.Settled.{endFrom};
 ghost use Rattle.bounds.specs.Sweep.{firstAt, ApproachingFrom, SweptFrom, BoundFrom};
 ghost use Rattle.bounds.specs.Between.{Between, roomy};
 
@@ -41,8 +41,8 @@ fn start(job: &[u8], counts: Counts, x: &mut [u8], side: Side)
 }
 
 // The end of a tie that is taken from a side.
-fn end_of(ends: Ends, side: Side) -> u8
-    ensures { λ r. ⌜ r ≡ endOf (sideOf side) ends ⌝ }
+fn end_from(ends: Ends, side: Side) -> u8
+    ensures { λ r. ⌜ r ≡ endFrom (sideOf side) ends ⌝ }
 {
     match side {
         Side::Below => ends.lowest,
@@ -70,7 +70,7 @@ fn sweep(job: &[u8], counts: Counts, weights: &[u64; 68], x: &mut [u8], side: Si
         let before = place::upstream_at(job, counts, weights, x, x, &upstream, p);
         upstream[p] = before.0;
         let ends = refine::settle(job, counts, weights[p], before, p, Capacitance(driven[p]));
-        let best = end_of(ends, side);
+        let best = end_from(ends, side);
         changed = changed | (best != x[p]);
         x[p] = best;
         p += 1;

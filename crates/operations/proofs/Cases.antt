@@ -2,12 +2,13 @@
 use mathlib.Core.Path.{_≡_, refl, sym, ap, subst, _∙_}
 use mathlib.Core.Bool.{Bool, true, false, cond, _&&_}
 use mathlib.Core.List.{List, [], _∷_, _++_}
-use Prim.Native.Nat.{ℕ, _≤_, _<_}
+use Prim.Native.Nat.{ℕ, suc, _+_, _^_, _≤_, _<_}
 use native.Mathlib.Omega.{arith}
 use borrow.Author.Tests.{lt-ltb, le-ltb, le-leb, lt-leb, ne-eqb}
 use lib.Dec.{lit≤}
-use lib.ListN.{length, set, take}
+use lib.ListN.{set, take}
 use Rattle.lattice.specs.Side.{below, above}
+use Rattle.lattice.specs.Lists.{at}
 use Rattle.lattice.specs.Space.{Allowed, within}
 use Rattle.lattice.specs.Refine.{bestBelow}
 use Rattle.lattice.proofs.Refining.{best-is}
@@ -22,13 +23,16 @@ use Rattle.net.specs.Answers.{question15, question16, question17, sizingIn, mea
 use Rattle.net.proofs.Dominance.{allowed-lattice}
 use Rattle.net.proofs.Answers.{Numbered, ranges-allowed, firstNo-pass, firstNo-stop, firstNo-no, firstNo-yes, job-passes, job-fails, sizingQuestions, measured-refused, measured-answered, refined-refused, refined-answered, chosen-refused}
 use Rattle.net.proofs.Places.{delay-take, loadFigure-take}
-use Rattle.net.proofs.Questions.{ordered, allowed-long, allowed-ranges}
+use Rattle.net.proofs.Questions.{ordered, limited, checked-fits}
+use Rattle.net.specs.Places.{drivenLoad}
+use Rattle.place.specs.Partial.{cost, WeightsFrom}
+use Rattle.place.specs.Held.{UpstreamTo}
 use Rattle.allowed.specs.Number.{sizingNumber}
 use Rattle.allowed.proofs.Numbers.{number-ranges}
-use Rattle.elmore.specs.Ready.{Ready}
 use Rattle.quantity.specs.declared.Delay.{Delay}
 use Rattle.refine.specs.declared.Ends.{Ends}
-use Rattle.refine.specs.Settled.{EndsAt}
+use Rattle.refine.specs.Settled.{Settled, EndsAt}
+use Rattle.refine.proofs.Settling.{settled-ends, settled-reaches}
 use Rattle.operations.specs.declared.EndsAndDelay.{EndsAndDelay}
 use Rattle.operations.specs.declared.Refinement.the-variants.{Best, Refused as NotRefined}
 use Rattle.operations.specs.declared.Preference.the-variants.{First, Second, Neither}
@@ -39,25 +43,36 @@ use Rattle.operations.specs.Outcomes.{refinedBy, Preferred, fromSecond}
 pub sizing-allowed : (net : Net) (x : List ℕ) → sizingNumber net x ≡ 0 → Allowed (allowed net) (sizingIn net x)
 sizing-allowed net x e = ranges-allowed net x (number-ranges net x e)
 
--- The sizing y, a copy of x, with the smallest end of the tie at p put there: it is ready to be evaluated, and what is then known.
-module _ (c : Counts) (b x y : List ℕ) (p : ℕ) (r : Ends) (k : Checked c b) (a : AllowedBy c b x) (few : p < placesBy c) (same : y ≡ x)
-    (ends : EndsAt (netBy c b) x p r) where
-  put-is : set y p (r .lowest) ≡ set x p (bestBelow (allowed (netBy c b)) (delay (netBy c b)) x p)
-  put-is = ap (λ z. set z p (r .lowest)) same ∙ ap (λ j. set x p j) (ends .ends below)
+-- What refining the place p of an allowed sizing x comes to, where the place's figures and what settling it finds are known: the delay with the
+-- smallest end put there is that of x, with what x's own index costs taken out and what the end costs put in.
+module _ {c : Counts} {b : List ℕ} (k : Checked c b) (weights upstream x : List ℕ) (w : WeightsFrom (netBy c b) 0 weights) (a : AllowedBy c b x)
+    (p d : ℕ) (few : p < placesBy c) (u : UpstreamTo (netBy c b) x x (suc p) upstream) (e : d ≡ drivenLoad (netBy c b) x p)
+    (r : Ends) (settled : Settled (netBy c b) (at weights p) (at upstream p) p d r)
+    (lent own : ℕ) (f : lent ≡ delay (netBy c b) x) (g : own ≡ cost (netBy c b) (at weights p) (at upstream p) p d (at x p)) where
+  ends : EndsAt (netBy c b) x p r
+  ends = settled-ends (netBy c b) (ordered k) (limited k) weights upstream x w a p d few u e r settled
 
-  pub put-inside : p < length y
-  put-inside = omega (arith, ap length same, allowed-long (netBy c b) x a)
+  abbrev put : List ℕ
+  put = set x p (r .lowest)
 
-  pub put-ready : Ready c b (set y p (r .lowest))
+  put-is : put ≡ set x p (bestBelow (allowed (netBy c b)) (delay (netBy c b)) x p)
+  put-is = ap (λ j. set x p j) (ends .ends below)
+
+  traded : delay (netBy c b) put + own ≡ lent + r .cost .0
+  traded = omega (arith, f, g, settled-reaches (netBy c b) (ordered k) (limited k) weights upstream x w a p d few u e r settled)
+
+  put-fits : delay (netBy c b) put < 2 ^ 63
   unfolding within
-  put-ready =
-      record {
-        checked = k;
-        inRanges = allowed-ranges (netBy c b) (set y p (r .lowest)) (rw put-is (best-is (allowed-lattice (netBy c b)) (delay (netBy c b)) below x a p few .allowed));
-      }
+  put-fits = checked-fits k put (rw put-is (best-is (allowed-lattice (netBy c b)) (delay (netBy c b)) below x a p few .allowed))
 
-  pub put-reached : (d : Delay) → d .0 ≡ delay (netBy c b) (set y p (r .lowest)) → ReachedAt (netBy c b) x p record { lowest = r .lowest; highest = r .highest; delay = d }
-  put-reached d e = record { smallest = ends .ends below; largest = ends .ends above; reached = e ∙ ap (delay (netBy c b)) put-is }
+  -- what `quantity::exchange` asks
+  pub exchange-asks : (lent < 2 ^ 63) × (r .cost .0 < 2 ^ 63) × (own ≤ lent + r .cost .0) × (lent + r .cost .0 < own + 2 ^ 63)
+  exchange-asks = (omega (arith, f, checked-fits k x a), settled .fits, omega (arith, traded), omega (arith, traded, put-fits))
+
+  pub exchanged : (v : Delay) → v .0 + own ≡ lent + r .cost .0 → ReachedAt (netBy c b) x p record { lowest = r .lowest; highest = r .highest; delay = v }
+  exchanged v h =
+      let z : v .0 ≡ delay (netBy c b) put = omega (arith, traded) in
+      record { smallest = ends .ends below; largest = ends .ends above; reached = z ∙ ap (delay (netBy c b)) put-is }
 
 module _ (job x : List ℕ) where
   -- a job that is refused

@@ -4,17 +4,14 @@ use net::Counts;
 use quantity::Capacitance;
 use quantity::Delay;
 use quantity::Resistance;
-use refine::Ends;
 ghost use mathlib.Core.Path.{_≡_};
 ghost use mathlib.Core.Bool.{true, false};
 ghost use Prim.Native.Nat.{_<_};
-ghost use lib.ListN.{length};
 ghost use Rattle.net.specs.Job.{placesBy};
 ghost use Rattle.net.specs.Net.{netBy};
 ghost use Rattle.net.specs.Checked.{Checked, AllowedBy};
 ghost use Rattle.net.specs.Answers.{measured, refined, chosen};
 ghost use Rattle.links.specs.Links.{LinkedBy};
-ghost use Rattle.refine.specs.Settled.{EndsAt};
 ghost use Rattle.operations.specs.Reached.{ReachedAt};
 ghost use Rattle.operations.specs.Outcomes.{measuredBy, refinedBy, measureRefused, refineRefused, Preferred, fromSecond};
 
@@ -63,20 +60,21 @@ pub fn measure(job: &[u8], sizing: &[u8]) -> Measurement
     Measurement::Figures(elmore::figures(job, counts, &first, &next, sizing))
 }
 
-// The ends of the tie at a place of an allowed sizing.
-fn settle_at(
+// The best indices at a place of an allowed sizing, and the scaled delay that they reach. With the index at the place the delay changes as what
+// the index costs there, so the net is not evaluated for each.
+fn refine_at(
     job: &[u8],
     counts: Counts,
     first: &[usize],
     next: &[usize],
     sizing: &[u8],
     place: usize,
-) -> Ends
+) -> EndsAndDelay
     requires { ⌜ Checked counts (now job) ⌝ }
     requires { ⌜ LinkedBy counts (now job) (now first) (now next) ⌝ }
     requires { ⌜ AllowedBy counts (now job) (now sizing) ⌝ }
     requires { ⌜ place < placesBy counts ⌝ }
-    ensures { λ r. ⌜ EndsAt (netBy counts (now (job .entry))) (now (sizing .entry)) place r ⌝ }
+    ensures { λ r. ⌜ ReachedAt (netBy counts (now (job .entry))) (now (sizing .entry)) place r ⌝ }
 {
     let mut weights = [0u64; 68];
     weights::weigh(job, counts, first, next, &mut weights);
@@ -94,41 +92,16 @@ fn settle_at(
         &mut upstream,
         place + 1,
     );
-    refine::settle(
-        job,
-        counts,
-        weights[place],
-        Resistance(upstream[place]),
-        place,
-        Capacitance(driven[place]),
-    )
-}
-
-// The same, with the delay that they reach. The sizing is copied into x, and one of the ends put there.
-fn refine_at(
-    job: &[u8],
-    counts: Counts,
-    first: &[usize],
-    next: &[usize],
-    sizing: &[u8],
-    x: &mut [u8],
-    place: usize,
-) -> EndsAndDelay
-    requires { ⌜ Checked counts (now job) ⌝ }
-    requires { ⌜ LinkedBy counts (now job) (now first) (now next) ⌝ }
-    requires { ⌜ AllowedBy counts (now job) (now sizing) ⌝ }
-    requires { ⌜ length (now sizing) ≡ length (now x) ⌝ }
-    requires { ⌜ place < placesBy counts ⌝ }
-    ensures { λ r. ⌜ ReachedAt (netBy counts (now (job .entry))) (now (sizing .entry)) place r ⌝ }
-{
-    let ends = settle_at(job, counts, first, next, sizing, place);
-    bytes::copy(sizing, x);
-    x[place] = ends.lowest;
-    let reached = &x[..];
+    let lent = place::fixed_delay(job, counts, &weights, &driven, sizing, sizing);
+    let weight = weights[place];
+    let before = Resistance(upstream[place]);
+    let load = Capacitance(driven[place]);
+    let ends = refine::settle(job, counts, weight, before, place, load);
+    let own = place::step(job, counts, weight, before, place, sizing[place], load).delay;
     EndsAndDelay {
         lowest: ends.lowest,
         highest: ends.highest,
-        delay: elmore::delay(job, counts, first, next, reached),
+        delay: quantity::exchange(lent, own, ends.cost),
     }
 }
 
@@ -152,9 +125,8 @@ pub fn refine(job: &[u8], sizing: &[u8], place: usize) -> Refinement
     if places <= place {
         return Refinement::Refused(17);
     }
-    let mut x = [0u8; 68];
     let held = &sizing[..places];
-    Refinement::Best(refine_at(job, counts, &first, &next, held, &mut x[..places], place))
+    Refinement::Best(refine_at(job, counts, &first, &next, held, place))
 }
 
 // The one of two sizings that has the smaller delay, at a tie the first, and its P.

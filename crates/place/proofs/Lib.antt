@@ -8,3 +8,4 @@ pub mod After
 pub mod Gathering
 pub mod Loads
 pub mod Driving
+pub mod Fixed

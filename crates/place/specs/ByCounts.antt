@@ -8,7 +8,7 @@ use Rattle.net.specs.Net.{netBy}
 use Rattle.net.specs.Places.{placeWeight}
 use Rattle.place.specs.declared.PlaceStep.{PlaceStep}
 use Rattle.place.specs.Partial.{StepOf, WeightsFrom}
-use Rattle.place.specs.Held.{hangsAt, sinkAt, slope, before, onward, DrivenFrom, UpstreamTo}
+use Rattle.place.specs.Held.{hangsAt, sinkAt, slope, before, fixedFrom, onward, DrivenFrom, UpstreamTo}
 
 module _ (c : Counts) (b : List ℕ) where
   -- `weights` has the weights of the places from p on, and of all of them.
@@ -50,6 +50,10 @@ module _ (c : Counts) (b : List ℕ) where
     -- `driven` has what the places drive where the free ones show no load.
     abbrev pub Driven : List ℕ → Type 0
     Driven driven = DrivenFrom (netBy c b) lower upper 0 driven
+
+    -- What all held places add to the delay.
+    abbrev pub fixedDelay : List ℕ → ℕ
+    fixedDelay driven = fixedFrom (netBy c b) lower upper driven 0
 
     -- What the delay grows by with each unit of load behind place a, and with each that place p shows.
     abbrev pub onwardFrom : List ℕ → ℕ → ℕ

@@ -8,7 +8,7 @@ use lib.Dec.{ltb, eqb}
 use lib.ListN.{length}
 use Rattle.lattice.specs.Lists.{at, sum}
 use Rattle.net.specs.Net.{Net, places}
-use Rattle.net.specs.Places.{placeWeight, loadAt}
+use Rattle.net.specs.Places.{placeWeight, delayAt, loadAt}
 
 -- The node that place p hangs at, where the stages are a chain before the tree: node 0 is before the first stage, `suc p` behind place p.
 unfoldable pub hangsAt : Net → ℕ → ℕ
@@ -62,6 +62,10 @@ module _ (net : Net) (lower upper : List ℕ) where
   pub record DrivenFrom (p : ℕ) (driven : List ℕ) : Type 0 where
     pub long : places net ≤ length driven
     pub held : (q : ℕ) → p ≤ q → q < places net → at driven q ≡ sinkAt net q + behind net (heldLoad driven) q
+
+  -- What the held places from p on add to the delay.
+  abbrev pub fixedFrom : List ℕ → ℕ → ℕ
+  fixedFrom driven p = sumAfter (places net) (λ a. cond (free lower upper a) 0 (placeWeight net a * delayAt net a (at lower a) (at driven a))) p
 
   -- What the delay grows by with each unit of load behind place a, through it and the places before it: nothing through a free place, and
   -- nothing beyond a stage, which shows its gate.

@@ -11,7 +11,7 @@ ghost use Rattle.net.specs.Job.{placesBy};
 ghost use Rattle.net.specs.Net.{netBy};
 ghost use Rattle.net.specs.Places.{loadAt};
 ghost use Rattle.net.specs.Checked.{Checked, AllowedBy};
-ghost use Rattle.place.specs.ByCounts.{Weighed, HangsAt, SinkAt, DriveInLimits, IndexAndWeight, SlopeAt, StepInLimits, Stepped, Driven, onwardFrom, upstreamOf, Upstream, StageInLimits, SegmentInLimits, ChargeInLimits, Charged};
+ghost use Rattle.place.specs.ByCounts.{Weighed, HangsAt, SinkAt, DriveInLimits, IndexAndWeight, SlopeAt, StepInLimits, Stepped, Driven, fixedDelay, onwardFrom, upstreamOf, Upstream, StageInLimits, SegmentInLimits, ChargeInLimits, Charged};
 
 // What a place adds at one of its indices: its part of the scaled delay with what its load costs upstream, and the load that it shows.
 pub struct PlaceStep {
@@ -261,4 +261,33 @@ pub fn step(
     ensures { λ r. ⌜ Stepped counts (now (job .entry)) weight (upstream .0) p k (driven .0) r ⌝ }
 {
     step_to(job, counts, weight, upstream, p, job::index(k), driven)
+}
+
+// What the held places add to the delay.
+pub fn fixed_delay(
+    job: &[u8],
+    counts: Counts,
+    weights: &[u64; 68],
+    driven: &[u64; 68],
+    lower: &[u8],
+    upper: &[u8],
+) -> Delay
+    requires { ⌜ Checked counts (now job) ⌝ }
+    requires { ⌜ Weighed counts (now job) (now weights) ⌝ }
+    requires { ⌜ Driven counts (now job) (now lower) (now upper) (now driven) ⌝ }
+    requires { ⌜ AllowedBy counts (now job) (now lower) ⌝ }
+    requires { ⌜ placesBy counts ≤ length (now upper) ⌝ }
+    ensures { λ r. ⌜ r .0 ≡ fixedDelay counts (now (job .entry)) (now (lower .entry)) (now (upper .entry)) (now (driven .entry)) ⌝ }
+{
+    let mut sum = Delay(0);
+    let mut p = counts.stages + counts.segments;
+    while p > 0 {
+        p -= 1;
+        if lower[p] >= upper[p] {
+            let load = Capacitance(driven[p]);
+            let step = step(job, counts, weights[p], Resistance(0), p, lower[p], load);
+            sum = quantity::add_delay(sum, step.delay);
+        }
+    }
+    sum
 }

@@ -1,7 +1,7 @@
 // Resistance, capacitance and scaled delay, kept apart: one struct each. Only the functions here add or multiply them. A table that is lent
 // holds the numbers of one of them, and a number read from it becomes its struct at once.
 ghost use mathlib.Core.Path.{_≡_};
-ghost use Prim.Native.Nat.{_+_, _*_, _^_, _<_};
+ghost use Prim.Native.Nat.{_+_, _*_, _^_, _<_, _≤_};
 
 pub struct Resistance(pub u64);
 
@@ -88,4 +88,13 @@ pub fn add_delay(a: Delay, b: Delay) -> Delay
     ensures { λ r. ⌜ (r .0 ≡ a .0 + b .0) × (r .0 < 2 ^ 63) ⌝ }
 {
     Delay(a.0 + b.0)
+}
+
+// A delay with one part of it taken out and another put in its place.
+pub fn exchange(whole: Delay, out: Delay, into: Delay) -> Delay
+    requires { ⌜ (whole .0 < 2 ^ 63) × (into .0 < 2 ^ 63) ⌝ }
+    requires { ⌜ (out .0 ≤ whole .0 + into .0) × (whole .0 + into .0 < out .0 + 2 ^ 63) ⌝ }
+    ensures { λ r. ⌜ (r .0 + out .0 ≡ whole .0 + into .0) × (r .0 < 2 ^ 63) ⌝ }
+{
+    Delay(whole.0 + into.0 - out.0)
 }

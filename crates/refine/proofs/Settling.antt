@@ -1,11 +1,11 @@
 -- The cheapest indices at a place of a net are the best: what a place costs changes with its index as the delay of the whole net does.
-use mathlib.Core.Path.{_≡_}
+use mathlib.Core.Path.{_≡_, sym, ap, _∙_}
 use mathlib.Core.Logic.{_↔_}
 use mathlib.Core.List.{List}
-use Prim.Native.Nat.{ℕ, suc, _+_, _≤_, _<_}
+use Prim.Native.Nat.{ℕ, suc, _+_, _^_, _≤_, _<_}
 use native.Mathlib.Omega.{arith}
 use lib.ListN.{set}
-use lib.Seq.{getD-set-same}
+use lib.Seq.{getD-set-same, set-getD}
 use Rattle.lattice.specs.Side.{Side, below, above}
 use Rattle.lattice.specs.Lists.{at}
 use Rattle.lattice.specs.Space.{Allowed, within}
@@ -26,14 +26,14 @@ use Rattle.place.proofs.Upstream.{upstream-most}
 use Rattle.place.proofs.Driving.{driven-small}
 use Rattle.place.proofs.OnePlace.{traded}
 use Rattle.refine.specs.declared.Ends.{Ends}
-use Rattle.refine.specs.Settled.{endOf, Settled, EndsAt}
+use Rattle.refine.specs.Settled.{endFrom, Settled, EndsAt}
 
 -- the ends that a loop over all indices of a place has found
-pub scanned-settled : (net : Net) (w u p d : ℕ) (r : Ends) (k least : ℕ) → Scanned (net .lowest p) (cost net w u p d) k (r .lowest) (r .highest) least
-    → k ≡ suc (net .highest p) → Settled net w u p d r
-scanned-settled net w u p d r k least i e = record { ends = λ s. go s }
+pub scanned-settled : (net : Net) (w u p d : ℕ) (r : Ends) (k : ℕ) → Scanned (net .lowest p) (cost net w u p d) k (r .lowest) (r .highest) (r .cost .0)
+    → r .cost .0 < 2 ^ 63 → k ≡ suc (net .highest p) → Settled net w u p d r
+scanned-settled net w u p d r k i h e = record { costs = i .costs; fits = h; ends = λ s. go s }
   where
-    go : (s : Side) → Cheapest s (net .lowest p) (suc (net .highest p)) (cost net w u p d) (endOf s r)
+    go : (s : Side) → Cheapest s (net .lowest p) (suc (net .highest p)) (cost net w u p d) (endFrom s r)
     go below = rw (← e) (i .low)
     go above = rw (← e) (i .high)
 
@@ -63,4 +63,11 @@ module _ (net : Net) (o : Ordered net) (l : Limited net) (weights upstream x : L
   pub settled-ends : (r : Ends) → Settled net (at weights p) (at upstream p) p d r → EndsAt net x p r
   unfolding within
   settled-ends r i =
-      record { ends = λ s. cheapest-best (allowed-lattice net) (delay net) x a p few (net .lowest p) (suc (net .highest p)) range _ cost-trades s (endOf s r) (i .ends s) }
+      record { ends = λ s. cheapest-best (allowed-lattice net) (delay net) x a p few (net .lowest p) (suc (net .highest p)) range _ cost-trades s (endFrom s r) (i .ends s) }
+
+  -- and the delay of the sizing with the smallest end at the place is told by what it costs there
+  pub settled-reaches : (r : Ends) → Settled net (at weights p) (at upstream p) p d r
+      → delay net (set x p (r .lowest)) + cost net (at weights p) (at upstream p) p d (at x p) ≡ delay net x + r .cost .0
+  settled-reaches r i =
+      cost-trades (at x p) (r .lowest) ∙ ap (λ (y : List ℕ). delay net y + cost net (at weights p) (at upstream p) p d (r .lowest)) (set-getD x p 0)
+      ∙ ap (λ (v : ℕ). delay net x + v) (sym (i .costs))

@@ -1,7 +1,7 @@
 -- Both ends of the tie at a place: by what its indices cost, and as the best indices of a sizing.
 use mathlib.Core.Path.{_≡_}
 use mathlib.Core.List.{List}
-use Prim.Native.Nat.{ℕ, suc, _≤_, _<_}
+use Prim.Native.Nat.{ℕ, suc, _^_, _≤_, _<_}
 use Rattle.lattice.specs.Side.{Side, below, above}
 use Rattle.lattice.specs.Cheapest.{Cheapest}
 use Rattle.lattice.specs.Refine.{best}
@@ -14,18 +14,20 @@ use Rattle.place.specs.Partial.{cost}
 use Rattle.refine.specs.declared.Ends.{Ends}
 
 -- The end that is taken from s: from below the smallest index, from above the largest.
-abbrev pub endOf : Side → Ends → ℕ
-endOf below r = r .lowest
-endOf above r = r .highest
+abbrev pub endFrom : Side → Ends → ℕ
+endFrom below r = r .lowest
+endFrom above r = r .highest
 
 -- Place p is there, and its weight, the resistance upstream and the load are in the limits.
 abbrev pub SettleInLimits : Counts → (w u p d : ℕ) → Type 0
 SettleInLimits c w u p d = (p < placesBy c) × (w ≤ 32640) × (u ≤ 443904000000) × (d ≤ 12900000)
 
--- r has the ends of the tie among the indices of place p that cost least.
+-- r has the ends of the tie among the indices of place p that cost least, and what they cost.
 pub record Settled (net : Net) (w u p d : ℕ) (r : Ends) : Type 0 where
-  pub ends : (s : Side) → Cheapest s (net .lowest p) (suc (net .highest p)) (cost net w u p d) (endOf s r)
+  pub costs : r .cost .0 ≡ cost net w u p d (r .lowest)
+  pub fits : r .cost .0 < 2 ^ 63
+  pub ends : (s : Side) → Cheapest s (net .lowest p) (suc (net .highest p)) (cost net w u p d) (endFrom s r)
 
 -- r has the ends of the tie at place p of x: its smallest and its largest best index, the rest of x held.
 pub record EndsAt (net : Net) (x : List ℕ) (p : ℕ) (r : Ends) : Type 0 where
-  pub ends : (s : Side) → endOf s r ≡ best s (allowed net) (delay net) x p
+  pub ends : (s : Side) → endFrom s r ≡ best s (allowed net) (delay net) x p

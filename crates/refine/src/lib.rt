@@ -7,10 +7,11 @@ ghost use Rattle.net.specs.Net.{netBy};
 ghost use Rattle.net.specs.Checked.{Checked};
 ghost use Rattle.refine.specs.Settled.{SettleInLimits, Settled};
 
-// The ends of a tie: the smallest and the largest best index.
+// The ends of a tie: the smallest and the largest best index, and what either costs.
 pub struct Ends {
     pub lowest: u8,
     pub highest: u8,
+    pub cost: Delay,
 }
 
 // The ends of the tie at a place, by its weight, the resistance upstream of it and the load that it drives. These stay as they are whatever its
@@ -44,5 +45,6 @@ pub fn settle(
     Ends {
         lowest: lowest as u8,
         highest: highest as u8,
+        cost: least,
     }
 }

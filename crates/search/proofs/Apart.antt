@@ -14,10 +14,10 @@ use Rattle.net.specs.Places.{placeWeight, delayAt, loadAt, drivenLoad, placeDel
 use Rattle.net.specs.Checked.{Ordered}
 use Rattle.net.proofs.Sum.{sum-same, sum-only}
 use Rattle.net.proofs.Places.{places-delay}
-use Rattle.place.specs.Held.{hangsAt, behind, sinkAt, before, sumAfter, free, heldLoad, DrivenFrom, UpstreamTo}
+use Rattle.place.specs.Held.{hangsAt, behind, sinkAt, before, sumAfter, free, heldLoad, DrivenFrom, UpstreamTo, fixedFrom}
 use Rattle.place.proofs.Behind.{eqb-iff}
 use Rattle.place.proofs.Held.{hangs-falls, driven-behind, more, behind-more, charged, apart}
-use Rattle.search.specs.Searching.{arrives, UpsTo, fixedFrom, freeLoad, pricedFrom}
+use Rattle.search.specs.Searching.{arrives, UpsTo, freeLoad, pricedFrom}
 
 -- a load arrives at no node behind its place
 pub ups-fall : (net : Net) → Ordered net → (lower upper ups : List ℕ) (n : ℕ) → UpsTo net lower upper n ups → (d q : ℕ) → q < d → q < n → q < places net → at ups q ≤ q

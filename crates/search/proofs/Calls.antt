@@ -16,14 +16,14 @@ use Rattle.net.specs.Sizings.{allowed}
 use Rattle.net.specs.Places.{placeWeight, delayAt, loadAt, drivenLoad, placeLoad}
 use Rattle.net.proofs.Questions.{ordered, limited, place-cases, allowed-iff}
 use Rattle.place.specs.declared.PlaceStep.{PlaceStep}
-use Rattle.place.specs.Partial.{StepOf}
+use Rattle.place.specs.Partial.{StepOf, cost}
 use Rattle.place.specs.Held.{free}
 use Rattle.place.proofs.Weights.{placeWeight-small}
 use Rattle.place.proofs.Upstream.{upstream-most}
 use Rattle.place.proofs.Driving.{driven-small, load-most as place-load-most}
 use Rattle.place.proofs.Gathering.{gathered-small}
 use Rattle.envelope.specs.Kept.{found}
-use Rattle.search.specs.Searching.{freeLoad, Prepared, Sized, Searched, stepDelay, PassedTo}
+use Rattle.search.specs.Searching.{freeLoad, Prepared, Sized, Searched, PassedTo}
 use Rattle.search.proofs.Apart.{ups-fall}
 use Rattle.search.proofs.Tables.{skip-le, skip-free}
 use Rattle.search.proofs.Turns.{Standing, Turning, stands, load-is, turning-start, highs, reached-fits, complete, turn-ready, turn-done, taken-done, passed-done, turning-end}
@@ -105,7 +105,7 @@ module _ {c : Counts} {job weights upstream driven ups skips lower upper : List 
   standing k l = record { allowed = s .allowed; held = s .held; same = λ q h m. refl; low = l }
 
   abbrev reached : ℕ → ℕ
-  reached k = added + stepDelay (netBy c job) (at weights (left - 1)) (at upstream (left - 1)) (left - 1) (at driven (left - 1) + at gathered (left - 1 + 1)) k
+  reached k = added + cost (netBy c job) (at weights (left - 1)) (at upstream (left - 1)) (left - 1) (at driven (left - 1) + at gathered (left - 1 + 1)) k
 
   reached-value : (k : ℕ) → reached k
       ≡ added + (placeWeight (netBy c job) (left - 1) * delayAt (netBy c job) (left - 1) k (drivenLoad (netBy c job) x (left - 1))
@@ -114,7 +114,7 @@ module _ {c : Counts} {job weights upstream driven ups skips lower upper : List 
 
   -- every index of the place gives a delay that fits
   pub all-fit : (load : ℕ) → load ≡ at driven (left - 1) + at gathered (left - 1 + 1) → (k : ℕ) → at lower (left - 1) ≤ k → k ≤ at upper (left - 1)
-      → added + stepDelay (netBy c job) (at weights (left - 1)) (at upstream (left - 1)) (left - 1) load k < 2 ^ 63
+      → added + cost (netBy c job) (at weights (left - 1)) (at upstream (left - 1)) (left - 1) load k < 2 ^ 63
   all-fit load e k l h = rw e (reached-fits r (left - 1) few frees (found least lean wide) start (standing k l) h (reached k) (reached-value k))
 
   pub top-high : at upper (left - 1) ≤ netBy c job .highest (left - 1)

@@ -5,14 +5,15 @@ use Prim.Native.Nat.{ℕ, _+_, _≤_, _<_}
 use native.Mathlib.Nat.{eq-or-lt-of-le}
 use native.Mathlib.Omega.{arith}
 use Rattle.net.specs.Net.{Net}
-use Rattle.search.specs.Searching.{stepDelay, PassedTo}
+use Rattle.place.specs.Partial.{cost}
+use Rattle.search.specs.Searching.{PassedTo}
 
 module _ {net : Net} {w u p l added least low top : ℕ} where
   pub passing-start : low ≤ top → PassedTo net w u p l added least low top low
   passing-start h = record { from = omega arith; within = omega arith; above = λ j a b. absurd (omega arith) }
 
   -- the index k gives a larger delay too
-  pub passing-step : {k : ℕ} → PassedTo net w u p l added least low top k → k ≤ top → least < added + stepDelay net w u p l k → PassedTo net w u p l added least low top (k + 1)
+  pub passing-step : {k : ℕ} → PassedTo net w u p l added least low top k → k ≤ top → least < added + cost net w u p l k → PassedTo net w u p l added least low top (k + 1)
   passing-step {k} a h m =
       record {
         from = omega (arith, a .from);

@@ -12,7 +12,8 @@ use Rattle.net.specs.Delay.{delay}
 use Rattle.net.proofs.Questions.{ordered}
 use Rattle.place.proofs.After.{after-none}
 use Rattle.place.proofs.Gathering.{gathering-start}
-use Rattle.search.specs.Searching.{fixedFrom, freeLoad, pricedFrom, Prepared, Sized, Searched}
+use Rattle.place.specs.Held.{fixedFrom}
+use Rattle.search.specs.Searching.{freeLoad, pricedFrom, Prepared, Sized, Searched}
 use Rattle.search.proofs.Apart.{delay-apart}
 use Rattle.search.proofs.Tables.{skip-le, priced-skip, gathers-skip, takes-skip}
 

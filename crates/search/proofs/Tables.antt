@@ -4,7 +4,7 @@ use mathlib.Core.Logic.{_⊎_, inl, inr}
 use mathlib.Core.Bool.{Bool, true, false, cond}
 use mathlib.Core.List.{List, flatMap}
 use Prim.Native.Nat.{ℕ, zero, suc, _+_, _*_, _-_, _≤_, _<_}
-use native.Mathlib.Nat.{eq-or-lt-of-le, le-of-suc-le-suc, mul-le-mul-right}
+use native.Mathlib.Nat.{eq-or-lt-of-le, le-of-suc-le-suc}
 use native.Mathlib.Numerals.{add-one}
 use native.Mathlib.Omega.{arith}
 use borrow.Author.Tests.{lt-ltb, le-ltb, ltb-false}
@@ -12,21 +12,14 @@ use lib.Dec.{eqb, ltb}
 use lib.ListN.{length, set}
 use lib.Seq.{getD-set-same, getD-set-other, set-getD}
 use Rattle.lattice.specs.Lists.{at, from, span}
-use Rattle.lattice.specs.Space.{Allowed}
 use Rattle.lattice.specs.Search.{Found, takes, cover}
 use Rattle.lattice.proofs.Searching.{takes-append}
 use Rattle.net.specs.Net.{Net, places}
 use Rattle.net.specs.Delay.{delay}
-use Rattle.net.specs.Places.{placeWeight, delayAt, placeDelay, placeLoad}
-use Rattle.net.specs.Sizings.{allowed}
-use Rattle.net.specs.Checked.{Ordered, Limited}
-use Rattle.net.proofs.Questions.{allowed-iff}
-use Rattle.place.specs.Held.{before, free, GatheredFrom, DrivenFrom}
-use Rattle.place.proofs.After.{after-none, after-step, after-skip, after-small}
-use Rattle.place.proofs.Weights.{placeWeight-small}
-use Rattle.place.proofs.Steps.{weighted-small}
-use Rattle.place.proofs.Driving.{delay-most, driven-most}
-use Rattle.search.specs.Searching.{arrives, SkipsTo, fixedFrom, freeLoad, pricedFrom}
+use Rattle.net.specs.Places.{placeDelay, placeLoad}
+use Rattle.place.specs.Held.{before, free, GatheredFrom}
+use Rattle.place.proofs.After.{after-skip}
+use Rattle.search.specs.Searching.{arrives, SkipsTo, freeLoad, pricedFrom}
 
 module _ (net : Net) (lower upper : List ℕ) where
   -- where a load at a node arrives: at the node itself, but through a held segment
@@ -169,34 +162,3 @@ module _ (net : Net) (lower upper skips : List ℕ) (s : SkipsTo lower upper (pl
   takes-skip order held f =
       cover-skip (delay net) lower upper (at skips p) p (skip-le lower upper (places net) skips s p h) y f
       (λ q a b. let t = skip-held lower upper (places net) skips s p h q a b in (one-index lower upper q (order q (omega arith)) t, held q (omega arith) t))
-
--- What the held places add, from the last place to the first.
-module _ (net : Net) (o : Ordered net) (l : Limited net) (lower upper driven : List ℕ) (low : Allowed (allowed net) lower) (i : DrivenFrom net lower upper 0 driven) where
-  abbrev term : ℕ → ℕ
-  term a = cond (free lower upper a) 0 (placeWeight net a * delayAt net a (at lower a) (at driven a))
-
-  pub fixed-fits : (p : ℕ) → fixedFrom net lower upper driven p ≤ 5770752000000000000
-  fixed-fits p =
-      omega (
-        arith,
-        after-small (places net) term p 84864000000000000 (λ q h m. go (free lower upper q) (weighted-small _ _ (placeWeight-small net o l q m) (delay-most net l q (at lower q) (at driven q) m (allowed-iff net lower .0 low .high q m) (driven-most net o l lower upper low driven i q m)))),
-        mul-le-mul-right 84864000000000000 few,
-      )
-    where
-      few : places net ≤ 68
-      few = omega (arith, l .stages, l .segments)
-
-      go : (b : Bool) {v : ℕ} → v ≤ 84864000000000000 → cond b 0 v ≤ 84864000000000000
-      go true h = omega arith
-      go false h = h
-
-  pub fixed-none : fixedFrom net lower upper driven (places net) ≡ 0
-  fixed-none = after-none (places net) term
-
-  -- a held place adds its delay, a free one nothing
-  pub fixed-step : (p : ℕ) → p < places net → at upper p ≤ at lower p
-      → fixedFrom net lower upper driven p ≡ fixedFrom net lower upper driven (suc p) + placeWeight net p * delayAt net p (at lower p) (at driven p)
-  fixed-step p h m = after-step (places net) term p h ∙ ap (λ (v : ℕ). fixedFrom net lower upper driven (suc p) + v) (rw (le-ltb (at lower p) (at upper p) m))
-
-  pub fixed-skip : (p : ℕ) → p < places net → at lower p < at upper p → fixedFrom net lower upper driven p ≡ fixedFrom net lower upper driven (suc p)
-  fixed-skip p h m = after-step (places net) term p h ∙ (rw (lt-ltb (at lower p) (at upper p) m) (omega arith))

@@ -22,10 +22,10 @@ use Rattle.net.specs.Places.{placeWeight, delayAt, loadAt, drivenLoad, placeDel
 use Rattle.net.proofs.Places.{driven-reads, placeLoad-reads, placeDelay-reads}
 use Rattle.net.proofs.Bound.{delay-fits}
 use Rattle.net.proofs.Questions.{ordered, limited, allowed-iff, allowed-ranges}
-use Rattle.place.specs.Held.{free, GatheredFrom}
+use Rattle.place.specs.Held.{free, GatheredFrom, fixedFrom}
 use Rattle.place.proofs.After.{after-step, after-same, after-le}
 use Rattle.place.proofs.Gathering.{gathered-all, gathering-step}
-use Rattle.search.specs.Searching.{fixedFrom, freeLoad, pricedFrom, Prepared, Sized, Searched}
+use Rattle.search.specs.Searching.{freeLoad, pricedFrom, Prepared, Sized, Searched}
 use Rattle.search.proofs.Apart.{ups-fall, delay-apart, driven-apart}
 use Rattle.search.proofs.Tables.{skip-le, next-index, no-index, priced-skip, gathers-skip, takes-skip}
 

@@ -13,10 +13,10 @@ use Rattle.net.specs.Job.{placesBy}
 use Rattle.net.specs.Net.{Net, places, netBy}
 use Rattle.net.specs.Delay.{delay}
 use Rattle.net.specs.Sizings.{allowed}
-use Rattle.net.specs.Places.{placeWeight, delayAt, loadAt, placeDelay, placeLoad}
+use Rattle.net.specs.Places.{placeDelay, placeLoad}
 use Rattle.net.specs.Checked.{Checked}
-use Rattle.place.specs.Partial.{WeightsFrom}
-use Rattle.place.specs.Held.{before, BeforeTo, sumAfter, free, GatheredFrom, DrivenFrom, UpstreamTo}
+use Rattle.place.specs.Partial.{cost, WeightsFrom}
+use Rattle.place.specs.Held.{before, BeforeTo, sumAfter, free, fixedFrom, GatheredFrom, DrivenFrom, UpstreamTo}
 
 -- `skips` has, for up to n places, how many of them there are up to the last that is free.
 pub record SkipsTo (lower upper : List ℕ) (n : ℕ) (skips : List ℕ) : Type 0 where
@@ -31,10 +31,6 @@ module _ (net : Net) (lower upper : List ℕ) where
   -- `ups` has, for the places before p, the node at which the load of a place arrives.
   abbrev pub UpsTo : ℕ → List ℕ → Type 0
   UpsTo p ups = BeforeTo net arrives p ups
-
-  -- What the held places from p on add to the delay.
-  abbrev pub fixedFrom : List ℕ → ℕ → ℕ
-  fixedFrom driven p = sumAfter (places net) (λ a. cond (free lower upper a) 0 (placeWeight net a * delayAt net a (at lower a) (at driven a))) p
 
   -- The load that a free place shows.
   abbrev pub freeLoad : List ℕ → ℕ → ℕ
@@ -84,15 +80,11 @@ pub record Searched (net : Net) (lower upper : List ℕ) (left : ℕ) (x gathere
   pub same : (q : ℕ) → left ≤ q → q < places net → at x′ q ≡ at x q
   pub gathers : gathered′ ≡ gathered
 
--- What the step of place p to the index k adds to the delay, where it has the weight w, the weighted resistance u upstream and drives the load l.
-abbrev pub stepDelay : Net → ℕ → ℕ → ℕ → ℕ → ℕ → ℕ
-stepDelay net w u p l k = w * delayAt net p k l + u * loadAt net p k l
-
 -- From `low` on every index before k gives a delay above `least`, and k is at most one past `top`.
 pub record PassedTo (net : Net) (w u p l added least low top k : ℕ) : Type 0 where
   pub from : low ≤ k
   pub within : k ≤ suc top
-  pub above : (j : ℕ) → low ≤ j → j < k → least < added + stepDelay net w u p l j
+  pub above : (j : ℕ) → low ≤ j → j < k → least < added + cost net w u p l j
 
 -- The place before `left` is free, and is the last one that is, or is not.
 module _ (lower upper skips : List ℕ) (left : ℕ) where
@@ -114,7 +106,7 @@ module _ (c : Counts) (lower upper : List ℕ) where
 module _ (c : Counts) (b : List ℕ) where
   -- Every index of place p from `low` to `top` gives a delay below 2 ^ 63.
   abbrev pub AllFit : (w u p l added low top : ℕ) → Type 0
-  AllFit w u p l added low top = (k : ℕ) → low ≤ k → k ≤ top → added + stepDelay (netBy c b) w u p l k < 2 ^ 63
+  AllFit w u p l added low top = (k : ℕ) → low ≤ k → k ≤ top → added + cost (netBy c b) w u p l k < 2 ^ 63
 
   -- Those before k are passed over.
   abbrev pub PassedBy : (w u p l added least low top k : ℕ) → Type 0
@@ -137,10 +129,6 @@ module _ (c : Counts) (b : List ℕ) where
 
     abbrev pub Lifted : List ℕ → Type 0
     Lifted ups = UpsTo (netBy c b) lower upper (placesBy c) ups
-
-    -- What all held places add to the delay.
-    abbrev pub fixedDelay : List ℕ → ℕ
-    fixedDelay driven = fixedFrom (netBy c b) lower upper driven 0
 
     abbrev pub SearchedFrom : (left : ℕ) (x gathered : List ℕ) (before : Found) (x′ gathered′ : List ℕ) (after : Found) → Type 0
     SearchedFrom left x gathered before x′ gathered′ after = Searched (netBy c b) lower upper left x gathered before x′ gathered′ after

@@ -11,7 +11,7 @@ ghost use Rattle.envelope.specs.Kept.{found};
 ghost use Rattle.net.specs.Job.{placesBy};
 ghost use Rattle.net.specs.Checked.{Checked, AllowedBy, ForPlaces};
 ghost use Rattle.place.specs.ByCounts.{Weighed, StepInLimits, Driven};
-ghost use Rattle.search.specs.Searching.{Bounds, Prepared, LastFree, MoreFree, BothLong, Skipped, AllFit, PassedBy, PassedAt, SizedBy, arrivesAt, Lifted, fixedDelay, SearchedFrom, takenBetween};
+ghost use Rattle.search.specs.Searching.{Bounds, Prepared, LastFree, MoreFree, BothLong, Skipped, AllFit, PassedBy, PassedAt, SizedBy, arrivesAt, Lifted, SearchedFrom, takenBetween};
 
 // The node at which a load at `node` arrives, through the held segments above it.
 fn arrival(
@@ -72,35 +72,6 @@ fn skip(job: &[u8], counts: Counts, lower: &[u8], upper: &[u8], skips: &mut [usi
             skips[p] = skips[q];
         }
     }
-}
-
-// What the held places add to the delay.
-fn fixed_delay(
-    job: &[u8],
-    counts: Counts,
-    weights: &[u64; 68],
-    driven: &[u64; 68],
-    lower: &[u8],
-    upper: &[u8],
-) -> Delay
-    requires { ⌜ Checked counts (now job) ⌝ }
-    requires { ⌜ Weighed counts (now job) (now weights) ⌝ }
-    requires { ⌜ Driven counts (now job) (now lower) (now upper) (now driven) ⌝ }
-    requires { ⌜ AllowedBy counts (now job) (now lower) ⌝ }
-    requires { ⌜ placesBy counts ≤ length (now upper) ⌝ }
-    ensures { λ r. ⌜ r .0 ≡ fixedDelay counts (now (job .entry)) (now (lower .entry)) (now (upper .entry)) (now (driven .entry)) ⌝ }
-{
-    let mut sum = Delay(0);
-    let mut p = counts.stages + counts.segments;
-    while p > 0 {
-        p -= 1;
-        if lower[p] >= upper[p] {
-            let load = Capacitance(driven[p]);
-            let step = place::step(job, counts, weights[p], Resistance(0), p, lower[p], load);
-            sum = quantity::add_delay(sum, step.delay);
-        }
-    }
-    sum
 }
 
 // The first index of place p from `low` on that gives a delay of at most `least`, or the one past `top`. It writes nothing and is called at the
@@ -318,7 +289,7 @@ fn start(
         ≡ takenBetween counts (now (job .entry)) (now (lower .entry)) (now (upper .entry))
         (found (least .0) (now (lean .entry)) (now (wide .entry))) ⌝ }
 {
-    let fixed = fixed_delay(job, counts, weights, driven, lower, upper);
+    let fixed = place::fixed_delay(job, counts, weights, driven, lower, upper);
     let left = skips[counts.stages + counts.segments];
     if left == 0 {
         return envelope::keep(x, fixed, least, lean, wide);

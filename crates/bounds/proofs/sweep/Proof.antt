@@ -75,8 +75,8 @@ settle-requires c κs =
     let f = settle-asks (netBy (b .args .counts) (b .args .job .now)) (ordered (b .pre .0)) (sideOf (b .args .side)) (b .args .x .now) (l .p) (omega (arith, c .before .before .before .before .loop-test .taken)) (l .x) (l .upstream) (l .changed) (l .inv) _ (c .before .upstream-at .ensures) (limited (b .pre .0)) (b .args .weights .now) _ (b .pre .1 .0) (c .before .before .before .before .before .before .drive .ensures) in
     (b .pre .0, (omega (arith, c .before .before .before .before .loop-test .taken), f .0, f .1, f .2))
 
-end-of-requires : tie.Need-end-of-requires Inv-loop μ-loop
-end-of-requires c κs = search needs
+end-from-requires : tie.Need-end-from-requires Inv-loop μ-loop
+end-from-requires c κs = search needs
 
 slice-read-changed : tie.Need-slice-read-changed Inv-loop μ-loop
 slice-read-changed c =
@@ -103,7 +103,7 @@ loop-again c =
     let b = c .before .before .before .before .before .before .before .before .before .before .before .before .before .before .before in
     let l = c .before .before .before .before .before .before .before .before .loop in
     let f = settle-finds (netBy (b .args .counts) (b .args .job .now)) (ordered (b .pre .0)) (sideOf (b .args .side)) (b .args .x .now) (l .p) (omega (arith, c .before .before .before .before .before .before .before .loop-test .taken)) (l .x) (l .upstream) (l .changed) (l .inv) _ (c .before .before .before .before .upstream-at .ensures) (limited (b .pre .0)) (b .args .weights .now) _ (b .pre .1 .0) (c .before .before .before .before .before .before .before .before .before .drive .ensures) _ (c .before .before .settle .ensures) in
-    sweeping-step (netBy (b .args .counts) (b .args .job .now)) (ordered (b .pre .0)) (sideOf (b .args .side)) (b .args .x .now) (l .p) (omega (arith, c .before .before .before .before .before .before .before .loop-test .taken)) (l .x) (l .upstream) (l .changed) (l .inv) _ (c .before .before .before .before .upstream-at .ensures) _ _ f (c .before .end-of .ensures)
+    sweeping-step (netBy (b .args .counts) (b .args .job .now)) (ordered (b .pre .0)) (sideOf (b .args .side)) (b .args .x .now) (l .p) (omega (arith, c .before .before .before .before .before .before .before .loop-test .taken)) (l .x) (l .upstream) (l .changed) (l .inv) _ (c .before .before .before .before .upstream-at .ensures) _ _ f (c .before .end-from .ensures)
 
 same-length : tie.Need-same-length Inv-loop μ-loop
 same-length c =
@@ -135,7 +135,7 @@ sweep-spec =
     mul-t32
     array-read-t35
     settle-requires
-    end-of-requires
+    end-from-requires
     slice-read-changed
     slice-write-x
     add-p

@@ -1,8 +1,6 @@
 -- `operations::refine` meets its contract: each way through it is the definition.
 use mathlib.Core.Path.{_≡_, sym, _∙_}
-use Prim.Native.Nat.{_≤_}
 use native.Mathlib.Omega.{arith}
-use lib.ListN.{replicate}
 use lib.Seq.{length-take-le}
 use Rattle.net.specs.Net.{netBy, places}
 use Rattle.allowed.proofs.Numbers.{number-ranges}
@@ -71,51 +69,22 @@ slice-aggregate-refine-at c = search needs
 slice-aggregate-refine-at-2 : tie.Need-slice-aggregate-refine-at-2
 slice-aggregate-refine-at-2 c = search needs
 
-array-borrow-prefix-x : tie.Need-array-borrow-prefix-x
-array-borrow-prefix-x c =
+refine-at-requires : tie.Need-refine-at-requires
+refine-at-requires c κs =
     let b = c .before .before .before .before .before .before .before .before .before .before .before .before .before .before .before .before .before in
     let k = c .before .before .before .before .before .before .before .before .before .before .before .before .check in
     let z : k .result .number ≡ 0 = omega arith in
-    omega (arith, k .ensures .passed z .fewStages, k .ensures .passed z .fewSegments)
-
-slice-aggregate-refine-at-3 : tie.Need-slice-aggregate-refine-at-3
-slice-aggregate-refine-at-3 c =
-    let b = c .before .before .before .before .before .before .before .before .before .before .before .before .before .before .before .before .before .before in
-    let k = c .before .before .before .before .before .before .before .before .before .before .before .before .before .check in
-    let z : k .result .number ≡ 0 = omega arith in
-    let h : places (netBy (k .result .counts) (b .args .job .now)) ≤ 68 = omega (arith, k .ensures .passed z .fewStages, k .ensures .passed z .fewSegments) in
-    sym (length-take-le (places (netBy (k .result .counts) (b .args .job .now))) (replicate 68 0) h)
-
-refine-at-requires : tie.Need-refine-at-requires
-refine-at-requires c κs =
-    let b = c .before .before .before .before .before .before .before .before .before .before .before .before .before .before .before .before .before .before in
-    let k = c .before .before .before .before .before .before .before .before .before .before .before .before .before .check in
-    let z : k .result .number ≡ 0 = omega arith in
-    let y : c .before .before .before .before .before .before .before .sizing-number .result ≡ 0 = omega arith in
-    let e = sym (c .before .before .before .before .before .before .before .sizing-number .ensures) ∙ y in
-    let h : places (netBy (k .result .counts) (b .args .job .now)) ≤ 68 = omega (arith, k .ensures .passed z .fewStages, k .ensures .passed z .fewSegments) in (
-      k .ensures .passed z,
-      (
-        k .ensures .linked z,
-        (
-          sizing-allowed (netBy (k .result .counts) (b .args .job .now)) (b .args .sizing .now) e,
-          (
-            length-take-le (places (netBy (k .result .counts) (b .args .job .now))) (b .args .sizing .now) (number-ranges (netBy (k .result .counts) (b .args .job .now)) (b .args .sizing .now) e .long)
-                ∙ sym (length-take-le (places (netBy (k .result .counts) (b .args .job .now))) (replicate 68 0) h),
-            omega arith,
-          ),
-        ),
-      ),
-    )
+    let y : c .before .before .before .before .before .before .sizing-number .result ≡ 0 = omega arith in
+    (k .ensures .passed z, (k .ensures .linked z, (sizing-allowed (netBy (k .result .counts) (b .args .job .now)) (b .args .sizing .now) (sym (c .before .before .before .before .before .before .sizing-number .ensures) ∙ y), omega arith)))
 
 returns-4 : tie.Need-returns-4
 returns-4 c =
-    let b = c .before .before .before .before .before .before .before .before .before .before .before .before .before .before .before .before .before .before .before .before in
-    let k = c .before .before .before .before .before .before .before .before .before .before .before .before .before .before .before .check in
+    let b = c .before .before .before .before .before .before .before .before .before .before .before .before .before .before .before .before .before .before in
+    let k = c .before .before .before .before .before .before .before .before .before .before .before .before .before .check in
     let z : k .result .number ≡ 0 = omega arith in
-    let y : c .before .before .before .before .before .before .before .before .before .sizing-number .result ≡ 0 = omega arith in (
-      refine-answer (b .args .job .now) (b .args .sizing .now) (k .ensures .passed z) (sym (k .ensures .number) ∙ z) (b .args .place) (c .before .refine-at .result) (sym (c .before .before .before .before .before .before .before .before .before .sizing-number .ensures) ∙ y) (omega arith)
-          (c .before .refine-at .ensures),
+    let y : c .before .before .before .before .before .before .before .sizing-number .result ≡ 0 = omega arith in (
+      refine-answer (b .args .job .now) (b .args .sizing .now) (k .ensures .passed z) (sym (k .ensures .number) ∙ z) (b .args .place) (c .refine-at .result) (sym (c .before .before .before .before .before .before .before .sizing-number .ensures) ∙ y) (omega arith)
+          (c .refine-at .ensures),
       tt,
     )
 
@@ -134,7 +103,5 @@ refine-spec =
     slice-aggregate-held
     slice-aggregate-refine-at
     slice-aggregate-refine-at-2
-    array-borrow-prefix-x
-    slice-aggregate-refine-at-3
     refine-at-requires
     returns-4)

@@ -3,7 +3,7 @@ use mathlib.Core.Path.{_∙_}
 use mathlib.Core.Logic.{⊎-elim}
 use borrow.Author.Needs.{needs}
 use native.Mathlib.Omega.{arith}
-use Prim.Native.Nat.{_-_, _≤_}
+use Prim.Native.Nat.{_-_, _^_, _≤_, _<_}
 use Rattle.lattice.proofs.Scan.{Scanned, scan-start, scan-less, scan-tie, scan-more}
 use Rattle.net.specs.Net.{netBy}
 use Rattle.place.specs.Partial.{cost}
@@ -13,7 +13,7 @@ use Rattle.refine.proofs.settle.Tie as tie
 
 abbrev Inv-loop : tie.InvT-loop
 Inv-loop job counts weight upstream place driven top lowest₀ highest₀ least₀ k₀ k-end lowest highest least k =
-    Scanned (netBy counts job .lowest place) (cost (netBy counts job) weight (upstream .0) place (driven .0)) k lowest highest (least .0) × (k ≤ k-end)
+    Scanned (netBy counts job .lowest place) (cost (netBy counts job) weight (upstream .0) place (driven .0)) k lowest highest (least .0) × (k ≤ k-end) × (least .0 < 2 ^ 63)
 
 abbrev μ-loop : tie.MeasureT-loop
 μ-loop job counts weight upstream place driven top lowest₀ highest₀ least₀ k₀ k-end lowest highest least k = k-end - k
@@ -48,6 +48,7 @@ loop-holds c =
     let low = c .before .before .index2 .ensures .0 ∙ c .before .before .before .lowest .ensures in (
       scan-start (netBy (b .args .counts) (b .args .job .now) .lowest p) _ _ _ low (c .before .step-to .ensures .delay),
       omega (arith, low, c .before .before .before .before .index .ensures, c .before .before .before .before .before .highest .ensures, b .pre .0 .ranges p (b .pre .1 .0)),
+      c .before .step-to .ensures .fits,
     )
 
 step-to-requires-2 : tie.Need-step-to-requires-2 Inv-loop μ-loop
@@ -68,6 +69,7 @@ loop-again c =
       ⊎-elim (λ w. rw (w .1, w .2, w .3) (scan-less _ _ _ _ _ _ (l .inv .0) _ e (w .0 .taken)))
           (⊎-elim (λ w. rw (w .4, w .5, w .6) (scan-tie _ _ _ _ _ _ (l .inv .0) _ e (w .3 .taken))) (λ w. rw (w .4, w .5, w .6) (scan-more _ _ _ _ _ _ (l .inv .0) _ e (omega (arith, w .0 .left, w .3 .left))))) (c .if1 .came),
       omega (arith, c .before .before .before .before .before .loop-test .taken),
+      ⊎-elim (λ w. rw (w .3) (c .before .before .before .before .step-to2 .ensures .fits)) (⊎-elim (λ w. rw (w .6) (l .inv .2)) (λ w. rw (w .6) (l .inv .2))) (c .if1 .came),
     )
 
 cast-t13 : tie.Need-cast-t13 Inv-loop μ-loop
@@ -79,7 +81,7 @@ cast-t19 c = omega (arith, c .before .loop .inv .0 .high .high, c .before .loop 
 returns : tie.Need-returns Inv-loop μ-loop
 returns c =
     let b = c .before .before .before .before .before .before .before .before .before in
-    scanned-settled (netBy (b .args .counts) (b .args .job .now)) _ _ (b .args .place) _ _ _ _ (c .before .loop .inv .0)
+    scanned-settled (netBy (b .args .counts) (b .args .job .now)) _ _ (b .args .place) _ _ _ (c .before .loop .inv .0) (c .before .loop .inv .2)
     (omega (arith, c .before .loop .inv .1, c .loop-test .left, c .before .before .before .before .before .before .index .ensures, c .before .before .before .before .before .before .before .highest .ensures))
 
 pub settle-spec : {M : Type 1} → statement M

@@ -15,7 +15,6 @@ use Rattle.search.proofs.start.Tie as tie
 use Rattle.search.proofs.start.Reads as reads
 use Rattle.search.proofs.start.Lts as lts
 use Rattle.envelope.proofs.keep.Reads as keep-reads
-use Rattle.search.proofs.fixed_delay.Reads as fixed-delay-reads
 use Rattle.search.proofs.take_from.Reads as take-from-reads
 use Rattle.search.proofs.search.Reads as search-reads
 

@@ -1,21 +1,17 @@
--- `search::fixed_delay` meets its contract: the loop has what the held places passed add.
+-- `place::fixed_delay` meets its contract: the loop has what the held places passed add.
 use Rattle.net.proofs.Questions.{allowed-long}
-use Rattle.search.proofs.Tables.{fixed-fits, fixed-none, fixed-step, fixed-skip}
-use Rattle.search.specs.Searching.{fixedFrom}
+use Rattle.place.proofs.Fixed.{fixed-fits, fixed-none, fixed-step, fixed-skip}
+use Rattle.place.specs.Held.{fixedFrom}
 use Rattle.place.proofs.Driving.{driven-most}
 use Rattle.place.proofs.Weights.{placeWeight-small}
 use Rattle.net.proofs.Questions.{ordered, limited, allowed-iff}
 use Rattle.net.specs.Net.{netBy}
 use borrow.Author.Needs.{needs}
 use native.Mathlib.Omega.{arith}
 use Prim.Native.Nat.{suc, _+_, _-_, _≤_, _<_}
 use mathlib.Core.Path.{_≡_, sym, _∙_}
-use Rattle.search.proofs.fixed_delay.Statement.{statement}
-use Rattle.search.proofs.fixed_delay.Tie as tie
-use Rattle.search.proofs.fixed_delay.Reads as reads
-use Rattle.search.proofs.fixed_delay.Lts as lts
-use Rattle.place.proofs.step.Reads as step-reads
-use Rattle.quantity.proofs.add_delay.Reads as add-delay-reads
+use Rattle.place.proofs.fixed_delay.Statement.{statement}
+use Rattle.place.proofs.fixed_delay.Tie as tie
 
 abbrev Inv-loop : tie.InvT-loop
 Inv-loop job counts weights driven lower upper sum₀ p₀ sum p = (sum .0 ≡ fixedFrom (netBy counts job) lower upper driven p) × (p ≤ counts .stages + counts .segments)
