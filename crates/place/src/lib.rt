@@ -1,4 +1,4 @@
-// What one place adds to the scaled delay, from what is known of the places after it.
+// What one place adds to the scaled delay, from what is known of the places after it, and what all held places add.
 use net::Counts;
 use quantity::Capacitance;
 use quantity::Delay;
