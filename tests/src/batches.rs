@@ -36,7 +36,7 @@ pub fn operation(call: &Call) -> &'static str {
     }
 }
 
-/// What a refine that is answered meets at its place; a tie counts apart where all sizings have the delay 0.
+/// What a refine that is answered meets at its place; a tie at the delay 0 counts apart.
 pub fn met(call: &Call) -> Option<&'static str> {
     let Call::Refine { job, sizing, place, .. } = call else {
         return None;
