@@ -75,15 +75,15 @@ fn a_measure(random: &mut Random, job: &[u8], plan: &Plan) -> Call {
 
 /// A refine of a job with a sizing made for a plan.
 fn a_refine(random: &mut Random, job: &[u8], plan: &Plan) -> Call {
-    let length = random.pick(&[10, 10, 10, 11, 18, 12]);
+    let lowest = random.byte();
     let sizing = any_sizing(random, plan);
     let place = any_place(random, plan.places());
-    let mark = random.byte();
+    let highest = random.byte();
     Call::Refine {
         job: job.to_vec(),
         sizing,
         place,
-        ends: (0..length).map(|i| mark.wrapping_add(i as u8)).collect(),
+        ends: [&[lowest, highest][..], &marked(8)].concat(),
     }
 }
 
