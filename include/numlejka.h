@@ -14,7 +14,7 @@
  *      2    Is every kind 1 to 4, and does the kind never fall from one record to the next?           all
  *      3    Are there 1 to 8 widths, 1 to 16 sizes, 1 to 4 stages, 1 to 64 segments?                  all
  *      4    Do the numbers count from 0 in each kind?                                                 all
- *      5    Are all unnamed bytes zero, and the capacitance and weight of each segment without sink?  all
+ *      5    Are all unnamed bytes zero?                                                               all
  *      6    Are the values of widths and sizes in range?                                              all
  *      7    In each of the two tables, does resistance strictly fall, and do width capacitance and
  *           gate capacitance strictly rise?                                                           all

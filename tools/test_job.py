@@ -221,6 +221,8 @@ class Bytes(unittest.TestCase):
             "raw 04 00 00 02 01 00 00 00 04 00 00 00 01 00 01 00",  # sink byte 2
             "raw 04 00 00 00 01 00 00 00 04 00 00 00 00 00 01 00",  # capacitance without sink
             "raw 04 00 00 00 01 00 00 00 00 00 00 00 01 00 01 00",  # weight without sink
+            "raw 04 00 00 00 01 00 00 00 04 00 00 00 01 00 01 00",  # both without sink
+            "raw 04 00 00 00 01 00 00 00 00 00 00 80 00 00 01 00",  # highest byte of a capacitance without sink
             "raw 00 00 00 00 00 00 00 00 00 00 00 00 00 00 00 00",  # no kind
         ):
             self.assertEqual(job.unpack(job.pack(line)), line + "\n")

@@ -149,8 +149,7 @@ fn check<'a>(job: &'a [u8], links: &mut Links) -> Result<Net<'a>, usize> {
     if !(widths.iter().all(|r| r[2..4] == [0; 2] && r[12..] == [0; 4])
         && sizes.iter().all(|r| r[2..4] == [0; 2])
         && stages.iter().all(|r| r[4..] == [0; 12])
-        && segments.iter().all(|r| r[15] == 0)
-        && sinks_or_none(segments))
+        && segments.iter().all(|r| r[15] == 0))
     {
         return Err(5);
     }

@@ -9,7 +9,7 @@ use crate::generate::{
 };
 use crate::limits::{largest_plans, limits};
 use crate::plan::Plan;
-use crate::questions::read;
+use crate::questions::{read, stray_sink_alone};
 use crate::random::Random;
 use crate::reference::{Refined, refine};
 use crate::worked;
@@ -23,11 +23,14 @@ pub const ONE_BEST: &str = "refine with one best index";
 pub const TIE: &str = "refine with a tie";
 pub const TIE_AT_0: &str = "refine with a tie at 0";
 
-/// How often each operation returned each number, and what refine met.
+/// A call on a job that passes 1 to 4 and has its unnamed bytes zero, but a capacitance or a weight where there is no sink.
+pub const STRAY_SINK: &str = "a stray sink alone";
+
+/// How often each operation returned each number, and what its call met.
 pub type Counts = BTreeMap<(&'static str, u64), usize>;
 
 /// The name of a call's operation.
-pub fn operation(call: &Call) -> &'static str {
+fn operation(call: &Call) -> &'static str {
     match call {
         Call::Measure { .. } => "measure",
         Call::Refine { .. } => "refine",
@@ -36,15 +39,25 @@ pub fn operation(call: &Call) -> &'static str {
     }
 }
 
-/// What a refine that is answered meets at its place; a tie at the delay 0 counts apart.
-pub fn met(call: &Call) -> Option<&'static str> {
-    let Call::Refine { job, sizing, place, .. } = call else {
+/// What a call meets: a stray sink alone, where its number is returned; or what a refine that is answered meets at its place, a
+/// tie at the delay 0 apart.
+fn met(call: &Call) -> Option<&'static str> {
+    match call {
+        Call::Choose { .. } => None,
+        Call::Measure { job, .. } | Call::Refine { job, .. } | Call::Size { job, .. } if stray_sink_alone(job) => {
+            Some(STRAY_SINK)
+        }
+        Call::Refine { job, sizing, place, .. } => met_at(job, sizing, *place),
+        _ => None,
+    }
+}
+
+/// What a refine that is answered meets at its place.
+fn met_at(job: &[u8], sizing: &[u8], place: usize) -> Option<&'static str> {
+    let Refined { number: 0, tie } = refine(job, sizing, place) else {
         return None;
     };
-    let Refined { number: 0, tie } = refine(job, sizing, *place) else {
-        return None;
-    };
-    let range = &read(job).expect("a job that is answered").ranges[*place];
+    let range = &read(job).expect("a job that is answered").ranges[place];
     Some(if range.lowest == range.highest {
         ONE_INDEX
     } else if tie.lowest == tie.highest {
@@ -56,10 +69,17 @@ pub fn met(call: &Call) -> Option<&'static str> {
     })
 }
 
-/// Counts the numbers that the reference expects of calls.
-pub fn count(counts: &mut Counts, calls: &[Call]) {
+/// Counts a call that has a number, by its operation and by what it meets.
+pub fn count(counts: &mut Counts, call: &Call, number: u64) {
+    for name in [Some(operation(call)), met(call)].into_iter().flatten() {
+        *counts.entry((name, number)).or_default() += 1;
+    }
+}
+
+/// Counts calls with the numbers that the reference expects of them.
+pub fn count_expected(counts: &mut Counts, calls: &[Call]) {
     for call in calls {
-        *counts.entry((operation(call), expected(call).number)).or_default() += 1;
+        count(counts, call, expected(call).number);
     }
 }
 

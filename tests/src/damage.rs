@@ -124,18 +124,6 @@ fn set_unnamed(random: &mut Random, job: &mut Vec<u8>) {
     }
 }
 
-/// Takes a sink's byte away and leaves a capacitance or a weight.
-fn stray_sink(random: &mut Random, job: &mut Vec<u8>) {
-    if let Some(at) = any_record(random, job, 4) {
-        job[at + 3] = 0;
-        match random.below(3) {
-            0 => job[at + 12] = random.between(1, 255) as u8,
-            1 => job[at + 8 + random.below(4)] = random.between(1, 255) as u8,
-            _ => put(job, at + 8, random.between(1, 100_000)),
-        }
-    }
-}
-
 /// Puts a resistance or a capacitance of a width out of range.
 fn width_beyond(random: &mut Random, job: &mut Vec<u8>) {
     let field = random.pick(&[4, 8]);
@@ -234,21 +222,38 @@ fn bad_segment_range(random: &mut Random, job: &mut Vec<u8>) {
     }
 }
 
-/// Takes a sink away with all that belongs to it.
+/// Takes the sink of the segment at a position away with all that belongs to it.
+fn clear_sink(job: &mut [u8], at: usize) {
+    job[at + 3] = 0;
+    put(job, at + 8, 0);
+    job[at + 12] = 0;
+}
+
+/// Leaves a segment without a sink a weight, a capacitance or both; or a byte of a capacitance, which may be out of range too.
+fn stray_sink(random: &mut Random, job: &mut Vec<u8>) {
+    if let Some(at) = any_record(random, job, 4) {
+        clear_sink(job, at);
+        let (capacitance, weight) = (random.between(1, 100_000), random.between(1, 255) as u8);
+        match random.below(4) {
+            0 => job[at + 12] = weight,
+            1 => put(job, at + 8, capacitance),
+            2 => (job[at + 8], job[at + 12]) = (1, weight),
+            _ => job[at + 8 + random.below(4)] = weight,
+        }
+    }
+}
+
+/// Takes a sink away.
 fn drop_sink(random: &mut Random, job: &mut Vec<u8>) {
     if let Some(at) = any_record(random, job, 4) {
-        job[at + 3] = 0;
-        put(job, at + 8, 0);
-        job[at + 12] = 0;
+        clear_sink(job, at);
     }
 }
 
 /// Takes the sink of the last segment away, on which nothing hangs.
 fn drop_last_sink(_: &mut Random, job: &mut Vec<u8>) {
     if let Some(&at) = records(job, 4).last() {
-        job[at + 3] = 0;
-        put(job, at + 8, 0);
-        job[at + 12] = 0;
+        clear_sink(job, at);
     }
 }
 
@@ -265,12 +270,12 @@ fn damages_for(question: usize) -> &'static [Damage] {
         2 => &[unknown_kind, swap_records, swap_ends],
         3 => &[drop_kind, too_many],
         4 => &[change_number, swap_records, drop_record],
-        5 => &[set_unnamed, stray_sink],
+        5 => &[set_unnamed],
         6 => &[width_beyond, size_beyond],
         7 => &[disorder, repeat_row],
         8 => &[bad_stage, free_first_stage],
         9 => &[late_parent],
-        10 => &[bad_sink_byte, length_beyond, sink_beyond, bad_segment_range],
+        10 => &[bad_sink_byte, length_beyond, sink_beyond, stray_sink, bad_segment_range],
         11 => &[drop_sink, drop_last_sink],
         _ => &[any_byte],
     }

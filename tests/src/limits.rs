@@ -236,7 +236,7 @@ fn count_limits() -> Vec<Limit> {
 }
 
 /// One-byte fields of the middle job at their limits and beyond them: record, byte, value, number.
-const BYTES: [(usize, usize, u8, u64); 26] = [
+const BYTES: [(usize, usize, u8, u64); 28] = [
     (4, 2, 1, 8),
     (4, 3, 1, 8),
     (5, 2, 1, 0),
@@ -251,12 +251,14 @@ const BYTES: [(usize, usize, u8, u64); 26] = [
     (7, 2, 2, 9),
     (6, 3, 1, 0),
     (6, 3, 2, 10),
-    (7, 3, 0, 5),
+    (7, 3, 0, 10),
     (7, 3, 2, 10),
     (7, 3, 255, 10),
     (7, 12, 0, 0),
     (7, 12, 255, 0),
-    (6, 12, 1, 5),
+    (6, 8, 1, 10),
+    (6, 11, 1, 10),
+    (6, 12, 1, 10),
     (7, 13, 1, 0),
     (7, 13, 2, 10),
     (7, 14, 0, 0),
@@ -280,11 +282,66 @@ fn byte_limits() -> Vec<Limit> {
     limits
 }
 
+/// A capacitance, a weight or both where there is no sink: at the first segment of the middle job, which has none, and at the
+/// last with its sink byte taken away. The record, then byte and value of each change.
+const STRAY_SINKS: [(usize, &[(usize, u8)]); 7] = [
+    (6, &[(8, 1)]),
+    (6, &[(11, 1)]),
+    (6, &[(12, 1)]),
+    (6, &[(9, 2), (12, 255)]),
+    (7, &[(3, 0)]),
+    (7, &[(3, 0), (12, 0)]),
+    (7, &[(3, 0), (8, 0), (9, 0)]),
+];
+
+/// A change to a job's bytes.
+type Change = fn(&mut Vec<u8>);
+
+/// What else may be wrong with such a job, and the number that it then has.
+const BESIDE: [(u64, Change); 15] = [
+    (1, |job| job.truncate(16 * 7 + 15)),
+    (2, |job| job[0] = 5),
+    (3, |job| drop(job.drain(16 * 4..16 * 6))),
+    (4, |job| job[16 + 1] = 0),
+    (4, |job| job[16 * 7 + 1] = 2),
+    (5, |job| job[2] = 1),
+    (5, |job| job[16 * 7 + 15] = 1),
+    (6, |job| job[4] = 0),
+    (6, |job| job[16 * 3 + 14] = 2),
+    (7, |job| job[16 + 4] = 40),
+    (8, |job| job[16 * 5 + 2] = 2),
+    (9, |job| job[16 * 6 + 2] = 1),
+    (9, |job| job[16 * 7 + 2] = 2),
+    (10, |job| job[16 * 7 + 14] = 2),
+    (10, |_| ()),
+];
+
+/// Jobs with a capacitance or a weight where there is no sink: 10 comes for it, before 11, and each number of 1 to 9 before 10.
+fn stray_sinks() -> Vec<Limit> {
+    let mut limits = Vec::new();
+    for (record, changes) in STRAY_SINKS {
+        for (case, (number, beside)) in BESIDE.into_iter().enumerate() {
+            let mut job = middle().bytes();
+            for &(at, value) in changes {
+                job[16 * record + at] = value;
+            }
+            beside(&mut job);
+            limits.push(Limit {
+                name: format!("record {record} with {changes:?} and case {case}"),
+                job,
+                number,
+            });
+        }
+    }
+    limits
+}
+
 /// All jobs at and just beyond a limit.
 pub fn limits() -> Vec<Limit> {
     let mut all = field_limits();
     all.extend(count_limits());
     all.extend(byte_limits());
+    all.extend(stray_sinks());
     all
 }
 

@@ -129,10 +129,10 @@ fn has_stray_sink(record: &[u8]) -> bool {
     record[3] == 0 && (number(record, 8) != 0 || record[12] != 0)
 }
 
-/// Question 5: are all unnamed bytes zero, and the capacitance and weight where the sink byte is 0?
+/// Question 5: are all unnamed bytes zero?
 fn question_5(job: &[u8]) -> bool {
     let unnamed_zero = |record: &[u8]| (0..RECORD).all(|at| record[at] == 0 || named_bytes(record[0]).contains(&at));
-    job.chunks(RECORD).all(unnamed_zero) && !of_kind(job, 4).into_iter().any(has_stray_sink)
+    job.chunks(RECORD).all(unnamed_zero)
 }
 
 /// Question 6: are the values of kinds 1 and 2 in range?
@@ -189,6 +189,15 @@ fn question_11(job: &[u8]) -> bool {
             .any(|other| usize::from(other[2]) == usize::from(segment[1]) + 1)
     };
     segments.iter().all(|segment| has_branch(segment) || segment[3] == 1)
+}
+
+/// Whether a capacitance or a weight stands at a segment whose sink byte is 0, in a job that passes 1 to 4 and has its unnamed
+/// bytes zero: question 10 alone forbids it.
+pub fn stray_sink_alone(job: &[u8]) -> bool {
+    [question_1, question_2, question_3, question_4, question_5]
+        .iter()
+        .all(|question| question(job))
+        && of_kind(job, 4).into_iter().any(has_stray_sink)
 }
 
 /// The number of the first question of 1 to 11 whose answer is no, or 0.

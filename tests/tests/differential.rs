@@ -2,7 +2,7 @@
 #![cfg(feature = "library")]
 
 use numlejka_tests::batches::{
-    Counts, MOST_ALLOWED, ONE_BEST, ONE_INDEX, TIE, damaged_calls, large_calls, largest_calls, limit_calls, met, operation,
+    Counts, MOST_ALLOWED, ONE_BEST, ONE_INDEX, STRAY_SINK, TIE, count, damaged_calls, large_calls, largest_calls, limit_calls,
     room_calls, small_calls, worked_calls,
 };
 use numlejka_tests::calls::{Call, expected, hex};
@@ -30,13 +30,10 @@ fn compare(counts: &mut Counts, call: &Call) {
         hex(&got.buffer),
         call.text()
     );
-    *counts.entry((operation(call), want.number)).or_default() += 1;
-    if let Some(kind) = met(call) {
-        *counts.entry((kind, want.number)).or_default() += 1;
-    }
+    count(counts, call, want.number);
 }
 
-/// Compares all calls and prints how often each operation gave each number, and what refine met.
+/// Compares all calls and prints how often each operation gave each number, and what the calls met.
 fn compare_all(name: &str, calls: impl Iterator<Item = Call>) -> Counts {
     let mut counts = Counts::new();
     let mut compared = 0;
@@ -69,14 +66,17 @@ fn more_small_jobs() {
     compare_small("more small jobs", Random::new(22));
 }
 
-/// Jobs with one to three damages over all four operations.
+/// Jobs with one to three damages over all four operations; a stray sink alone comes with each of 6 to 10, and no other number.
 #[test]
 fn damaged_jobs() {
     let mut random = Random::new(23);
-    compare_all(
-        "damaged jobs",
-        (0..DAMAGED_JOBS).flat_map(|_| damaged_calls(&mut random, MOST_ALLOWED)),
-    );
+    let calls = (0..DAMAGED_JOBS).flat_map(|_| damaged_calls(&mut random, MOST_ALLOWED));
+    let counts = compare_all("damaged jobs", calls);
+    let stray: Vec<u64> = counts.keys().filter(|key| key.0 == STRAY_SINK).map(|key| key.1).collect();
+    assert_eq!(stray, [6, 7, 8, 9, 10]);
+    for number in stray {
+        assert!(counts[&(STRAY_SINK, number)] >= 100, "{number}");
+    }
 }
 
 /// Every field and count at its limit and beyond.

@@ -1,6 +1,8 @@
 //! Tests of the reference itself: the worked jobs, the two ways to the bounds, the limits, and what the generators reach.
 
-use numlejka_tests::batches::{Counts, MOST_ALLOWED, count, damaged_calls, limit_calls, room_calls, small_calls, worked_calls};
+use numlejka_tests::batches::{
+    Counts, MOST_ALLOWED, STRAY_SINK, count_expected, damaged_calls, limit_calls, room_calls, small_calls, worked_calls,
+};
 use numlejka_tests::calls::Call;
 use numlejka_tests::generate::{allowed_sizing, large_plan, marked, small_plan};
 use numlejka_tests::limits::{largest_plans, limits};
@@ -288,20 +290,20 @@ fn the_clock_net_is_answered() {
     check_theory(&net, &bounds, &found);
 }
 
-/// The generated calls reach every number of every operation, and no other.
+/// The generated calls reach every number of every operation, and no other; a stray sink alone each of 6 to 10, and no other.
 #[test]
 fn every_number_is_reached() {
     let mut counts = Counts::new();
     let mut random = Random::new(3);
     for _ in 0..20_000 {
-        count(&mut counts, &damaged_calls(&mut random, MOST_ALLOWED));
+        count_expected(&mut counts, &damaged_calls(&mut random, MOST_ALLOWED));
     }
     for _ in 0..500 {
-        count(&mut counts, &small_calls(&mut random, MOST_ALLOWED));
+        count_expected(&mut counts, &small_calls(&mut random, MOST_ALLOWED));
     }
-    count(&mut counts, &limit_calls());
-    count(&mut counts, &worked_calls());
-    count(&mut counts, &room_calls());
+    count_expected(&mut counts, &limit_calls());
+    count_expected(&mut counts, &worked_calls());
+    count_expected(&mut counts, &room_calls());
     for ((operation, number), times) in &counts {
         println!("{operation} {number}: {times}");
     }
@@ -310,6 +312,7 @@ fn every_number_is_reached() {
     assert_eq!(reached("measure"), (0..=11).chain([15, 16]).collect::<Vec<u64>>());
     assert_eq!(reached("refine"), (0..=11).chain([15, 16, 17]).collect::<Vec<u64>>());
     assert_eq!(reached("choose"), [0, 1, 2]);
+    assert_eq!(reached(STRAY_SINK), [6, 7, 8, 9, 10]);
 }
 
 /// A call that is printed can be run again.

@@ -85,7 +85,7 @@ const QUESTIONS: [(usize, &str); 16] = [
     (2, "Is every kind 1 to 4, and does the kind never fall from one record to the next?"),
     (3, "Are there 1 to 8 widths, 1 to 16 sizes, 1 to 4 stages, 1 to 64 segments?"),
     (4, "Do the numbers count from 0 in each kind?"),
-    (5, "Are all unnamed bytes zero, and the sink capacitance and weight of every segment whose sink byte is 0?"),
+    (5, "Are all unnamed bytes zero?"),
     (6, "Are the values of kinds 1 and 2 in range?"),
     (7, "In each of the two tables, does resistance strictly fall, and do width capacitance and gate capacitance strictly rise?"),
     (8, "Is every stage's lowest at most its highest, which is below the count of sizes, and are both equal for stage 0?"),

@@ -1,21 +1,30 @@
--- Definitions as they were before a change, and what stayed equal. None of them is a definition of the library.
-use mathlib.Core.Path.{_≡_, _∙_, sym}
-use mathlib.Core.Bool.{Bool, true}
-use mathlib.Core.List.{List, [], _∷_, _++_}
-use Prim.Native.Nat.{ℕ}
+-- Definitions as they were before a change, which answers stayed, and what the others became. None of them is a definition of the library.
+use mathlib.Core.Path.{_≡_, _∙_, refl, sym}
+use mathlib.Core.Logic.{_⊎_, inl, inr, ⊎-elim}
+use mathlib.Core.Bool.{Bool, true, false, _&&_, and-assoc, and-false}
+use mathlib.Core.List.{List, [], _∷_, _++_, map}
+use Prim.Native.Nat.{ℕ, _+_, _<_}
 use native.Mathlib.Decide.{ℕ-discrete}
-use lib.Dec.{leb, le→leb}
+use native.Mathlib.Omega.{arith}
+use borrow.Author.Tests.{ne-eqb}
+use lib.Dec.{T, leb, le→leb}
+use lib.ListN.{set}
 use Rattle.lattice.specs.Lists.{at, every}
-use Rattle.lattice.proofs.ListLaws.{is-true, at-every}
+use Rattle.lattice.proofs.ListLaws.{is-true, at-every, every-or}
+use Rattle.lattice.proofs.Every.{every-and, every-fails}
+use Rattle.net.specs.declared.Counts.{Counts}
+use Rattle.net.specs.Job.{byte, count, countsOf, widthAt, sizeAt, stageAt, segmentAt, segmentSink, sinkCapacitance, sinkWeight}
 use Rattle.net.specs.Net.{places, netOf}
 use Rattle.net.specs.Sizings.{lowerBound, upperBound, room}
-use Rattle.net.specs.Questions.{Question, ask, firstNo, jobQuestions, refusal}
-use Rattle.net.specs.Answers.{replyLength, sizeNumber}
-use Rattle.net.proofs.Answers.{job-passes, job-fails}
+use Rattle.net.specs.Questions.{question1, question2, question3, question4, zeros, question5, question6, question7, question8, question9, sinkOrZero, question10, Question, ask, firstNo, jobQuestions, refusal}
+use Rattle.net.specs.Answers.{replyLength, sizeNumber, littleEndian}
+use Rattle.net.specs.Starred.{J1}
+use Rattle.net.proofs.Answers.{firstNo-yes, firstNo-no, job-passes, job-fails}
 use Rattle.net.proofs.Demands.{bounds-never-cross}
 use Rattle.net.proofs.Promises.{size-fails, size-passes}
+use Rattle.net.proofs.Unnamed.{UnnamedZero, unnamed-only}
 
--- The number of size as it was while question 13 was asked.
+-- The number of size with question 13, which it asked once.
 module _ (job : List ℕ) (n : ℕ) where
   -- 13. Is the lower bound at most the upper at each place?
   abbrev question13 : Bool
@@ -38,3 +47,138 @@ module _ (job : List ℕ) (n : ℕ) where
       go : Dec (refusal job ≡ 0) → firstNo (jobQuestions job ++ own) ≡ sizeNumber job n
       go (yes e) = job-passes job own e ∙ rw (question13-passes e) (sym (size-passes job n e))
       go (no z) = job-fails job own z ∙ sym (size-fails job n z)
+
+-- Question 5 as it was while it forbade what question 10 forbids too: a capacitance or a weight where there is no sink.
+module _ (c : Counts) (b : List ℕ) where
+  -- The former 5. Are all unnamed bytes zero, and the sink capacitance and weight of every segment whose sink byte is 0?
+  unfoldable pub formerQuestion5 : Bool
+  formerQuestion5 =
+      every (c .widths) (λ k. zeros c b (widthAt k + 2) 2 && zeros c b (widthAt k + 12) 4)
+      && (every (c .sizes) (λ k. zeros c b (sizeAt c k + 2) 2)
+      && (every (c .stages) (λ s. zeros c b (stageAt c s + 4) 12)
+      && every (c .segments) (λ i. zeros c b (segmentAt c i + 15) 1 && sinkOrZero c b i)))
+
+  -- it is question 5 and the clause
+  clause : formerQuestion5 ≡ question5 c b && every (c .segments) (sinkOrZero c b)
+  unfolding formerQuestion5 question5
+  clause = rw (every-and (c .segments) (λ i. zeros c b (segmentAt c i + 15) 1) (sinkOrZero c b), and-assoc, and-assoc, and-assoc)
+
+-- The questions of a job as they were: the former question 5 in the place of the fifth.
+unfoldable pub formerJobQuestions : List ℕ → List Question
+formerJobQuestions b = set (jobQuestions b) 4 (ask 5 (formerQuestion5 (countsOf b) b))
+
+-- A capacitance or a weight at a segment whose sink byte is 0.
+pub record StraySink (c : Counts) (b : List ℕ) : Type 0 where
+  pub segment : ℕ
+  pub held : segment < c .segments
+  pub sinkless : segmentSink c b segment ≡ 0
+  pub figure : (0 < sinkCapacitance c b segment) ⊎ (0 < sinkWeight c b segment)
+
+-- A job that failed the former question 5 for this alone: it passes 1 to 4, and its unnamed bytes are zero.
+pub record StraySinkAlone (job : List ℕ) : Type 0 where
+  pub one : T (question1 job)
+  pub two : T (question2 job)
+  pub three : T (question3 (countsOf job))
+  pub four : T (question4 (countsOf job) job)
+  pub unnamed : UnnamedZero (countsOf job) job
+  pub stray : StraySink (countsOf job) job
+
+module _ {c : Counts} {b : List ℕ} where
+  -- there the clause fails, of the former question 5 and of question 10
+  stray-fails : (y : StraySink c b) → sinkOrZero c b (y .segment) ≡ false
+  unfolding sinkOrZero
+  stray-fails y = go (y .figure)
+    where
+      go : (0 < sinkCapacitance c b (y .segment)) ⊎ (0 < sinkWeight c b (y .segment)) → sinkOrZero c b (y .segment) ≡ false
+      go (inl l) = rw (y .sinkless, ne-eqb (sinkCapacitance c b (y .segment)) 0 (λ e. omega (arith, l, e)))
+      go (inr l) = rw (y .sinkless, ne-eqb (sinkWeight c b (y .segment)) 0 (λ e. omega (arith, l, e)), and-false)
+
+  clause-fails : StraySink c b → every (c .segments) (sinkOrZero c b) ≡ false
+  clause-fails y = every-fails (c .segments) (sinkOrZero c b) (y .segment) (y .held) (stray-fails y)
+
+  question10-fails : StraySink c b → question10 c b ≡ false
+  unfolding question10
+  question10-fails y = every-fails (c .segments) _ (y .segment) (y .held) (rw (stray-fails y, and-false, and-false, and-false, and-false))
+
+  -- where the clause fails there is such a segment
+  stray-found : (i : ℕ) → i < c .segments → (T (sinkOrZero c b i) → ⊥) → StraySink c b
+  unfolding sinkOrZero
+  stray-found i h n = go (ℕ-discrete (segmentSink c b i) 0) (ℕ-discrete (sinkCapacitance c b i) 0) (ℕ-discrete (sinkWeight c b i) 0)
+    where
+      go : Dec (segmentSink c b i ≡ 0) → Dec (sinkCapacitance c b i ≡ 0) → Dec (sinkWeight c b i ≡ 0) → StraySink c b
+      go (no s) d e = absurd (n (rw (ne-eqb (segmentSink c b i) 0 s) tt))
+      go (yes s) (no d) e = record { segment = i; held = h; sinkless = s; figure = inl (omega (arith, d)) }
+      go (yes s) (yes d) (no e) = record { segment = i; held = h; sinkless = s; figure = inr (omega (arith, e)) }
+      go (yes s) (yes d) (yes e) = absurd (n (rw (s, d, e) tt))
+
+-- a clause of question 5 that holds wherever 1 to 5 pass changes no number
+same-first : (p q r s t u : Bool) (qs : List Question) → (T p → T q → T r → T s → T t → T u)
+    → firstNo (ask 1 p ∷ ask 2 q ∷ ask 3 r ∷ ask 4 s ∷ ask 5 t ∷ qs) ≡ firstNo (ask 1 p ∷ ask 2 q ∷ ask 3 r ∷ ask 4 s ∷ ask 5 (t && u) ∷ qs)
+unfolding firstNo
+same-first false q r s t u qs h = refl
+same-first true false r s t u qs h = refl
+same-first true true false s t u qs h = refl
+same-first true true true false t u qs h = refl
+same-first true true true true false u qs h = refl
+same-first true true true true true true qs h = refl
+same-first true true true true true false qs h = absurd (h tt tt tt tt tt)
+
+module _ (job : List ℕ) where
+  abbrev c : Counts
+  c = countsOf job
+
+  abbrev sixToNine : List Question
+  sixToNine = ask 6 (question6 c job) ∷ ask 7 (question7 c job) ∷ ask 8 (question8 c job) ∷ ask 9 (question9 c job) ∷ []
+
+  -- The first of questions 6 to 9 that the job fails, or else 10.
+  unfoldable pub sixToNineOr10 : ℕ
+  sixToNineOr10 = firstNo (sixToNine ++ ask 10 false ∷ [])
+
+  past-4 : StraySinkAlone job → (qs : List Question)
+      → firstNo (ask 1 (question1 job) ∷ ask 2 (question2 job) ∷ ask 3 (question3 c) ∷ ask 4 (question4 c job) ∷ qs) ≡ firstNo qs
+  unfolding firstNo
+  past-4 a qs = rw (is-true (question1 job) (a .one), is-true (question2 job) (a .two), is-true (question3 c) (a .three), is-true (question4 c job) (a .four))
+
+  at-10 : (t : Bool) (qs : List Question) → t ≡ false → firstNo (sixToNine ++ ask 10 t ∷ qs) ≡ sixToNineOr10
+  unfolding sixToNineOr10 firstNo
+  at-10 t qs e = rw e
+
+  -- An operation asks the job's questions and then its own, whichever these are.
+  module _ (own : List Question) where
+    -- A job that failed the former question 5 for this alone ..
+    pub was-5 : StraySinkAlone job → firstNo (formerJobQuestions job ++ own) ≡ 5
+    unfolding formerJobQuestions jobQuestions
+    was-5 a = past-4 a _ ∙ firstNo-no 5 _ (formerQuestion5 c job) (rw (clause c job, clause-fails (a .stray)) (and-false (question5 c job)))
+
+    -- .. is refused with the first of 6 to 9 that it fails, or else with 10.
+    pub is-6-to-10 : StraySinkAlone job → firstNo (jobQuestions job ++ own) ≡ sixToNineOr10
+    unfolding jobQuestions
+    is-6-to-10 a = past-4 a _ ∙ firstNo-yes 5 _ (question5 c job) (is-true (question5 c job) (unnamed-only c job .1 (a .unnamed))) ∙ at-10 (question10 c job) _ (question10-fails (a .stray))
+
+    -- Every other job gets the number that it got.
+    pub others-same : (StraySinkAlone job → ⊥) → firstNo (jobQuestions job ++ own) ≡ firstNo (formerJobQuestions job ++ own)
+    unfolding jobQuestions formerJobQuestions
+    others-same n = rw (clause c job) (same-first _ _ _ _ _ _ _ holds)
+      where
+        holds : T (question1 job) → T (question2 job) → T (question3 c) → T (question4 c job) → T (question5 c job) → T (every (c .segments) (sinkOrZero c job))
+        holds one two three four five =
+            ⊎-elim
+            (λ all. at-every (c .segments) (sinkOrZero c job) all)
+            (λ w. absurd (n record { one = one; two = two; three = three; four = four; unnamed = unnamed-only c job .0 five; stray = stray-found (w .0) (w .1) (w .2) }))
+            (every-or (c .segments) (sinkOrZero c job))
+
+-- Five such jobs, each J1 with its sink byte, at 67, taken away: with a width resistance of 0 (at 4), with equal width resistances (at 20), with
+-- the lowest index of its stage above the highest (at 50), with its segment hanging on itself (at 66), and with nothing else wrong.
+abbrev sinkless : List ℕ
+sinkless = set J1 67 0
+
+abbrev strayJobs : List (List ℕ)
+strayJobs = set sinkless 4 0 ∷ set sinkless 20 4 ∷ set sinkless 50 1 ∷ set sinkless 66 1 ∷ sinkless ∷ []
+
+pub all-were-5 : map (λ job. firstNo (formerJobQuestions job)) strayJobs ≡ 5 ∷ 5 ∷ 5 ∷ 5 ∷ 5 ∷ []
+unfolding every count countsOf question1 question2 question3 question4 zeros sinkOrZero formerQuestion5 firstNo jobQuestions formerJobQuestions littleEndian
+all-were-5 = refl
+
+pub are-6-to-10 : map refusal strayJobs ≡ 6 ∷ 7 ∷ 8 ∷ 9 ∷ 10 ∷ []
+unfolding every count countsOf question1 question2 question3 question4 zeros question5 question6 question7 question8 question9 sinkOrZero question10 firstNo jobQuestions refusal littleEndian
+are-6-to-10 = refl

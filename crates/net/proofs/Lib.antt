@@ -10,5 +10,6 @@ pub mod Answers
 pub mod Ties
 pub mod Demands
 pub mod Promises
+pub mod Unnamed
 pub mod Former
 pub mod Starred

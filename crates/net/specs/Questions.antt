@@ -38,17 +38,13 @@ module _ (c : Counts) (b : List ℕ) where
   unfoldable pub zeros : ℕ → ℕ → Bool
   zeros at n = every n (λ i. eqb (byte b (at + i)) 0)
 
-  -- Are sink capacitance and weight of segment i zero if its sink byte is 0?
-  unfoldable pub sinkOrZero : ℕ → Bool
-  sinkOrZero i = not (eqb (segmentSink c b i) 0) || (eqb (sinkCapacitance c b i) 0 && eqb (sinkWeight c b i) 0)
-
-  -- 5. Are all unnamed bytes zero, and the sink capacitance and weight of every segment whose sink byte is 0?
+  -- 5. Are all unnamed bytes zero?
   unfoldable pub question5 : Bool
   question5 =
       every (c .widths) (λ k. zeros (widthAt k + 2) 2 && zeros (widthAt k + 12) 4)
       && (every (c .sizes) (λ k. zeros (sizeAt c k + 2) 2)
       && (every (c .stages) (λ s. zeros (stageAt c s + 4) 12)
-      && every (c .segments) (λ i. zeros (segmentAt c i + 15) 1 && sinkOrZero i)))
+      && every (c .segments) (λ i. zeros (segmentAt c i + 15) 1)))
 
   -- 6. Are the values of kinds 1 and 2 in range?
   unfoldable pub question6 : Bool
@@ -74,6 +70,10 @@ module _ (c : Counts) (b : List ℕ) where
   -- 9. Is each parent byte at most the segment's own number?
   unfoldable pub question9 : Bool
   question9 = every (c .segments) (λ i. leb (segmentParent c b i) i)
+
+  -- Are sink capacitance and weight of segment i zero if its sink byte is 0?
+  unfoldable pub sinkOrZero : ℕ → Bool
+  sinkOrZero i = not (eqb (segmentSink c b i) 0) || (eqb (sinkCapacitance c b i) 0 && eqb (sinkWeight c b i) 0)
 
   -- 10. Are segment fields in range, capacitance and weight 0 where there is no sink, and lowest ≤ highest < count of widths?
   unfoldable pub question10 : Bool

@@ -35,17 +35,16 @@ module _ (c : Counts) (b : List ℕ) where
   unfolding question4
   question4-by d e f g = both (d ∙ every-same _ _ _ (λ k h. rw (zero-add k))) (both e (both f (g ∙ every-same _ _ _ (λ k h. rw (add-assoc (c .widths + c .sizes) (c .stages) k)))))
 
-  pub question5-by : {p q r s t u v w : Bool} → p ≡ every (c .widths) (zeroBytes b 0 2 2) → q ≡ every (c .widths) (wordWithin b 0 12 0 0)
+  pub question5-by : {p q r s t u v : Bool} → p ≡ every (c .widths) (zeroBytes b 0 2 2) → q ≡ every (c .widths) (wordWithin b 0 12 0 0)
       → r ≡ every (c .sizes) (zeroBytes b (c .widths) 2 2) → s ≡ every (c .stages) (wordWithin b (c .widths + c .sizes) 4 0 0)
       → t ≡ every (c .stages) (wordWithin b (c .widths + c .sizes) 8 0 0) → u ≡ every (c .stages) (wordWithin b (c .widths + c .sizes) 12 0 0)
-      → v ≡ every (c .segments) (zeroBytes b (c .widths + c .sizes + c .stages) 15 1) → w ≡ every (c .segments) (sinkOrNone b (c .widths + c .sizes + c .stages))
-      → p && q && (r && (s && (t && u) && (v && w))) ≡ question5 c b
-  unfolding question5 zeros sinkOrZero
-  question5-by d e f g h i j l =
+      → v ≡ every (c .segments) (zeroBytes b (c .widths + c .sizes + c .stages) 15 1) → p && q && (r && (s && (t && u) && v)) ≡ question5 c b
+  unfolding question5 zeros
+  question5-by d e f g h i j =
       both (two _ _ _ d (e ∙ every-same _ _ _ (λ k m. zero-word b 0 12 k)) ∙ every-same _ _ _ (λ k m. rw (zero-add k)))
       (both f
       (both (two _ _ _ g (two _ _ _ h i) ∙ every-same _ _ _ (λ k m. zero-words b (c .widths + c .sizes) k))
-      (two _ _ _ j l ∙ every-same _ _ _ (λ k m. rw (add-assoc (c .widths + c .sizes) (c .stages) k)))))
+      (j ∙ every-same _ _ _ (λ k m. rw (add-assoc (c .widths + c .sizes) (c .stages) k)))))
 
   pub question6-by : {p q r s t : Bool} → p ≡ every (c .widths) (wordWithin b 0 4 1 100) → q ≡ every (c .widths) (wordWithin b 0 8 1 100)
       → r ≡ every (c .sizes) (wordWithin b (c .widths) 4 1 100000) → s ≡ every (c .sizes) (wordWithin b (c .widths) 8 1 100000)

@@ -64,23 +64,21 @@ fn question4(job: &[u8], counts: Counts) -> bool
     widths & (sizes & (stages & segments))
 }
 
-// Question 5: are all unnamed bytes zero, and the sink capacitance and weight of every segment whose sink byte is 0?
+// Question 5: are all unnamed bytes zero?
 fn question5(job: &[u8], counts: Counts) -> bool
     requires { ⌜ Held counts (now job) ⌝ }
     ensures { λ r. ⌜ r ≡ question5 counts (now (job .entry)) ⌝ }
 {
     let places = counts.widths + counts.sizes;
-    let wires = places + counts.stages;
     let before = runs::bytes_zero(job, 0, counts.widths, 2, 2);
     let behind = runs::words_within(job, 0, counts.widths, 12, 0, 0);
     let sizes = runs::bytes_zero(job, counts.widths, counts.sizes, 2, 2);
     let second = runs::words_within(job, places, counts.stages, 4, 0, 0);
     let third = runs::words_within(job, places, counts.stages, 8, 0, 0);
     let fourth = runs::words_within(job, places, counts.stages, 12, 0, 0);
-    let segments = runs::bytes_zero(job, wires, counts.segments, 15, 1);
-    let sinks = runs::sinks_or_none(job, wires, counts.segments);
+    let segments = runs::bytes_zero(job, places + counts.stages, counts.segments, 15, 1);
     let stages = second & (third & fourth);
-    (before & behind) & (sizes & (stages & (segments & sinks)))
+    (before & behind) & (sizes & (stages & segments))
 }
 
 // Question 6: are the values of kinds 1 and 2 in range?

@@ -1,6 +1,8 @@
 //! Writes a file of framed calls and a file of the lines that they have to give.
 
-use numlejka_tests::batches::{Counts, count, damaged_calls, large_calls, limit_calls, room_calls, small_calls, worked_calls};
+use numlejka_tests::batches::{
+    Counts, STRAY_SINK, count_expected, damaged_calls, large_calls, limit_calls, room_calls, small_calls, worked_calls,
+};
 use numlejka_tests::calls::Call;
 use numlejka_tests::random::{Random, SEED};
 
@@ -79,7 +81,7 @@ fn main() -> std::io::Result<()> {
     std::fs::write(&files[0], &frames)?;
     std::fs::write(&files[1], lines)?;
     let mut counts = Counts::new();
-    count(&mut counts, &calls);
+    count_expected(&mut counts, &calls);
     assert!(
         (0..=12).chain([14]).all(|number| counts.contains_key(&("size", number))),
         "every question of size is reached"
@@ -89,6 +91,10 @@ fn main() -> std::io::Result<()> {
             .chain([15, 16, 17])
             .all(|number| counts.contains_key(&("refine", number))),
         "every question of refine is reached"
+    );
+    assert!(
+        (6..=10).all(|number| counts.contains_key(&(STRAY_SINK, number))),
+        "a stray sink alone comes with each of 6 to 10"
     );
     println!("seed {SEED:#x}, {} calls, {} bytes, {counts:?}", calls.len(), frames.len());
     Ok(())

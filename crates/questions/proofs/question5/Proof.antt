@@ -7,9 +7,6 @@ use Rattle.questions.proofs.question5.Tie as tie
 add-places : tie.Need-add-places
 add-places c = search needs
 
-add-wires : tie.Need-add-wires
-add-wires c = search needs
-
 bytes-zero-requires : tie.Need-bytes-zero-requires
 bytes-zero-requires c κs = search needs
 
@@ -28,11 +25,11 @@ words-within-requires-3 c κs = search needs
 words-within-requires-4 : tie.Need-words-within-requires-4
 words-within-requires-4 c κs = search needs
 
+add-bytes-zero : tie.Need-add-bytes-zero
+add-bytes-zero c = search needs
+
 bytes-zero-requires-3 : tie.Need-bytes-zero-requires-3
 bytes-zero-requires-3 c κs = search needs
-
-sinks-or-none-requires : tie.Need-sinks-or-none-requires
-sinks-or-none-requires c κs = search needs
 
 returns : tie.Need-returns
 returns c =
@@ -43,21 +40,19 @@ returns c =
     (c .before .before .before .before .words-within2 .ensures)
     (c .before .before .before .words-within3 .ensures)
     (c .before .before .words-within4 .ensures)
-    (c .before .bytes-zero3 .ensures)
-    (c .sinks-or-none .ensures)
+    (c .bytes-zero3 .ensures)
 
 pub question5-spec : {M : Type 1} → statement M
 question5-spec =
     tie.close
     (tie.spec
     add-places
-    add-wires
     bytes-zero-requires
     words-within-requires
     bytes-zero-requires-2
     words-within-requires-2
     words-within-requires-3
     words-within-requires-4
+    add-bytes-zero
     bytes-zero-requires-3
-    sinks-or-none-requires
     returns)

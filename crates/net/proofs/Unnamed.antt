@@ -1,0 +1,79 @@
+-- Question 5 asks that all unnamed bytes are zero, and nothing else.
+use mathlib.Core.Path.{_≡_}
+use mathlib.Core.Logic.{_↔_}
+use mathlib.Core.Bool.{Bool, _&&_}
+use mathlib.Core.List.{List}
+use Prim.Native.Nat.{ℕ, _+_, _≤_, _<_}
+use native.Mathlib.Nat.{le-dest, add-assoc}
+use native.Mathlib.Omega.{arith}
+use lib.Dec.{T, eqb, eqb→eq}
+use Rattle.lattice.specs.Lists.{every}
+use Rattle.lattice.proofs.ListLaws.{and-T, T-and, eq-T, every-at, at-every}
+use Rattle.net.specs.declared.Counts.{Counts}
+use Rattle.net.specs.Job.{byte, widthAt, sizeAt, stageAt, segmentAt}
+use Rattle.net.specs.Questions.{zeros, question5}
+
+-- Bytes l to h, h left out, of the record at r are zero.
+abbrev ZeroBytes : List ℕ → ℕ → ℕ → ℕ → Type 0
+ZeroBytes b r l h = (j : ℕ) → l ≤ j → j < h → byte b (r + j) ≡ 0
+
+-- All bytes that the format does not name are zero; a width has some before its figures and some behind them.
+pub record UnnamedZero (c : Counts) (b : List ℕ) : Type 0 where
+  pub widthsBefore : (k : ℕ) → k < c .widths → ZeroBytes b (widthAt k) 2 4
+  pub widthsBehind : (k : ℕ) → k < c .widths → ZeroBytes b (widthAt k) 12 16
+  pub sizes : (k : ℕ) → k < c .sizes → ZeroBytes b (sizeAt c k) 2 4
+  pub stages : (s : ℕ) → s < c .stages → ZeroBytes b (stageAt c s) 4 16
+  pub segments : (i : ℕ) → i < c .segments → ZeroBytes b (segmentAt c i) 15 16
+
+module _ (c : Counts) (b : List ℕ) where
+  bytes-zero : (r l n : ℕ) → ZeroBytes b r l (l + n) → T (zeros c b (r + l) n)
+  unfolding zeros
+  bytes-zero r l n f = at-every n _ (λ i h. eq-T (byte b (r + l + i)) 0 (rw (add-assoc r l i) (f (l + i) (omega arith) (omega arith))))
+
+  zero-bytes : (r l n : ℕ) → T (zeros c b (r + l) n) → ZeroBytes b r l (l + n)
+  unfolding zeros
+  zero-bytes r l n t j g h =
+      let d = le-dest g in
+      let e : byte b (r + l + d .0) ≡ 0 = eqb→eq (byte b (r + l + d .0)) 0 (every-at n (λ i. eqb (byte b (r + l + i)) 0) t (d .0) (omega (arith, d .1))) in
+      let f : r + l + d .0 ≡ r + j = omega (arith, d .1) in
+      rw f at e
+
+  abbrev row : ℕ → Bool
+  row k = zeros c b (widthAt k + 2) 2 && zeros c b (widthAt k + 12) 4
+
+  abbrev size : ℕ → Bool
+  size k = zeros c b (sizeAt c k + 2) 2
+
+  abbrev stage : ℕ → Bool
+  stage s = zeros c b (stageAt c s + 4) 12
+
+  abbrev segment : ℕ → Bool
+  segment i = zeros c b (segmentAt c i + 15) 1
+
+  zero-passes : UnnamedZero c b → T (question5 c b)
+  unfolding question5
+  zero-passes u =
+      T-and (every (c .widths) row) (every (c .sizes) size && (every (c .stages) stage && every (c .segments) segment))
+      (at-every (c .widths) row (λ k h. T-and (zeros c b (widthAt k + 2) 2) _ (bytes-zero (widthAt k) 2 2 (u .widthsBefore k h)) (bytes-zero (widthAt k) 12 4 (u .widthsBehind k h))))
+      (T-and (every (c .sizes) size) (every (c .stages) stage && every (c .segments) segment)
+      (at-every (c .sizes) size (λ k h. bytes-zero (sizeAt c k) 2 2 (u .sizes k h)))
+      (T-and (every (c .stages) stage) (every (c .segments) segment)
+      (at-every (c .stages) stage (λ s h. bytes-zero (stageAt c s) 4 12 (u .stages s h)))
+      (at-every (c .segments) segment (λ i h. bytes-zero (segmentAt c i) 15 1 (u .segments i h)))))
+
+  passes-zero : T (question5 c b) → UnnamedZero c b
+  unfolding question5
+  passes-zero t =
+      let t1 = and-T (every (c .widths) row) _ t in
+      let t2 = and-T (every (c .sizes) size) _ (t1 .1) in
+      let t3 = and-T (every (c .stages) stage) (every (c .segments) segment) (t2 .1) in
+      record {
+        widthsBefore = λ k h. zero-bytes (widthAt k) 2 2 (and-T (zeros c b (widthAt k + 2) 2) _ (every-at (c .widths) row (t1 .0) k h) .0);
+        widthsBehind = λ k h. zero-bytes (widthAt k) 12 4 (and-T (zeros c b (widthAt k + 2) 2) _ (every-at (c .widths) row (t1 .0) k h) .1);
+        sizes = λ k h. zero-bytes (sizeAt c k) 2 2 (every-at (c .sizes) size (t2 .0) k h);
+        stages = λ s h. zero-bytes (stageAt c s) 4 12 (every-at (c .stages) stage (t3 .0) s h);
+        segments = λ i h. zero-bytes (segmentAt c i) 15 1 (every-at (c .segments) segment (t3 .1) i h);
+      }
+
+  pub unnamed-only : T (question5 c b) ↔ UnnamedZero c b
+  unnamed-only = (passes-zero, zero-passes)
