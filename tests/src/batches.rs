@@ -39,11 +39,9 @@ fn operation(call: &Call) -> &'static str {
     }
 }
 
-/// What a call meets: a stray sink alone, where its number is returned; or what a refine that is answered meets at its place, a
-/// tie at the delay 0 apart.
+/// What a call meets: a stray sink alone, of a call that tells its number; or what a refine that is answered meets at its place.
 fn met(call: &Call) -> Option<&'static str> {
     match call {
-        Call::Choose { .. } => None,
         Call::Measure { job, .. } | Call::Refine { job, .. } | Call::Size { job, .. } if stray_sink_alone(job) => {
             Some(STRAY_SINK)
         }
@@ -52,7 +50,7 @@ fn met(call: &Call) -> Option<&'static str> {
     }
 }
 
-/// What a refine that is answered meets at its place.
+/// What a refine that is answered meets at its place; a tie at the delay 0 counts apart.
 fn met_at(job: &[u8], sizing: &[u8], place: usize) -> Option<&'static str> {
     let Refined { number: 0, tie } = refine(job, sizing, place) else {
         return None;

@@ -233,12 +233,15 @@ fn clear_sink(job: &mut [u8], at: usize) {
 fn stray_sink(random: &mut Random, job: &mut Vec<u8>) {
     if let Some(at) = any_record(random, job, 4) {
         clear_sink(job, at);
-        let (capacitance, weight) = (random.between(1, 100_000), random.between(1, 255) as u8);
+        let (capacitance, byte) = (random.between(1, 100_000), random.between(1, 255) as u8);
         match random.below(4) {
-            0 => job[at + 12] = weight,
+            0 => job[at + 12] = byte,
             1 => put(job, at + 8, capacitance),
-            2 => (job[at + 8], job[at + 12]) = (1, weight),
-            _ => job[at + 8 + random.below(4)] = weight,
+            2 => {
+                put(job, at + 8, capacitance);
+                job[at + 12] = byte;
+            }
+            _ => job[at + 8 + random.below(4)] = byte,
         }
     }
 }

@@ -1,4 +1,5 @@
-//! Jobs at and just beyond every limit, and jobs of the largest size and figures.
+//! Jobs at and just beyond every limit, jobs with a capacitance or a weight where there is no sink, and jobs of the largest size
+//! and figures.
 
 use crate::generate::{SHAPES, Shape, parent_byte};
 use crate::plan::{Plan, segment_with_sink, segment_without_sink};
@@ -236,7 +237,7 @@ fn count_limits() -> Vec<Limit> {
 }
 
 /// One-byte fields of the middle job at their limits and beyond them: record, byte, value, number.
-const BYTES: [(usize, usize, u8, u64); 28] = [
+const BYTES: [(usize, usize, u8, u64); 26] = [
     (4, 2, 1, 8),
     (4, 3, 1, 8),
     (5, 2, 1, 0),
@@ -256,8 +257,6 @@ const BYTES: [(usize, usize, u8, u64); 28] = [
     (7, 3, 255, 10),
     (7, 12, 0, 0),
     (7, 12, 255, 0),
-    (6, 8, 1, 10),
-    (6, 11, 1, 10),
     (6, 12, 1, 10),
     (7, 13, 1, 0),
     (7, 13, 2, 10),
@@ -297,8 +296,8 @@ const STRAY_SINKS: [(usize, &[(usize, u8)]); 7] = [
 /// A change to a job's bytes.
 type Change = fn(&mut Vec<u8>);
 
-/// What else may be wrong with such a job, and the number that it then has.
-const BESIDE: [(u64, Change); 15] = [
+/// What else may be wrong with such a job, one question's or two's, and the number that it then has.
+const BESIDE: [(u64, Change); 20] = [
     (1, |job| job.truncate(16 * 7 + 15)),
     (2, |job| job[0] = 5),
     (3, |job| drop(job.drain(16 * 4..16 * 6))),
@@ -306,12 +305,17 @@ const BESIDE: [(u64, Change); 15] = [
     (4, |job| job[16 * 7 + 1] = 2),
     (5, |job| job[2] = 1),
     (5, |job| job[16 * 7 + 15] = 1),
+    (5, |job| (job[2], job[4]) = (1, 0)),
     (6, |job| job[4] = 0),
     (6, |job| job[16 * 3 + 14] = 2),
+    (6, |job| (job[16 * 3 + 14], job[16 * 7 + 2]) = (2, 2)),
     (7, |job| job[16 + 4] = 40),
+    (7, |job| (job[16 + 4], job[16 * 5 + 2]) = (40, 2)),
     (8, |job| job[16 * 5 + 2] = 2),
+    (8, |job| (job[16 * 5 + 2], job[16 * 7 + 2]) = (2, 2)),
     (9, |job| job[16 * 6 + 2] = 1),
     (9, |job| job[16 * 7 + 2] = 2),
+    (9, |job| (job[16 * 7 + 2], job[16 * 7 + 14]) = (2, 2)),
     (10, |job| job[16 * 7 + 14] = 2),
     (10, |_| ()),
 ];
@@ -336,7 +340,7 @@ fn stray_sinks() -> Vec<Limit> {
     limits
 }
 
-/// All jobs at and just beyond a limit.
+/// All jobs at and just beyond a limit, and those with a capacitance or a weight where there is no sink.
 pub fn limits() -> Vec<Limit> {
     let mut all = field_limits();
     all.extend(count_limits());

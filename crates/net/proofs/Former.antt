@@ -1,4 +1,4 @@
--- Definitions as they were before a change, which answers stayed, and what the others became. None of them is a definition of the library.
+-- Definitions as they were before a change, which numbers stayed, and what the others became. None of them is a definition of the library.
 use mathlib.Core.Path.{_≡_, _∙_, refl, sym}
 use mathlib.Core.Logic.{_⊎_, inl, inr, ⊎-elim}
 use mathlib.Core.Bool.{Bool, true, false, _&&_, and-assoc, and-false}
@@ -13,7 +13,7 @@ use Rattle.lattice.specs.Lists.{at, every}
 use Rattle.lattice.proofs.ListLaws.{is-true, at-every, every-or}
 use Rattle.lattice.proofs.Every.{every-and, every-fails}
 use Rattle.net.specs.declared.Counts.{Counts}
-use Rattle.net.specs.Job.{byte, count, countsOf, widthAt, sizeAt, stageAt, segmentAt, segmentSink, sinkCapacitance, sinkWeight}
+use Rattle.net.specs.Job.{count, countsOf, widthAt, sizeAt, stageAt, segmentAt, segmentSink, sinkCapacitance, sinkWeight}
 use Rattle.net.specs.Net.{places, netOf}
 use Rattle.net.specs.Sizings.{lowerBound, upperBound, room}
 use Rattle.net.specs.Questions.{question1, question2, question3, question4, zeros, question5, question6, question7, question8, question9, sinkOrZero, question10, Question, ask, firstNo, jobQuestions, refusal}
@@ -24,7 +24,7 @@ use Rattle.net.proofs.Demands.{bounds-never-cross}
 use Rattle.net.proofs.Promises.{size-fails, size-passes}
 use Rattle.net.proofs.Unnamed.{UnnamedZero, unnamed-only}
 
--- The number of size with question 13, which it asked once.
+-- The number of size with question 13, which it once asked.
 module _ (job : List ℕ) (n : ℕ) where
   -- 13. Is the lower bound at most the upper at each place?
   abbrev question13 : Bool
@@ -145,12 +145,12 @@ module _ (job : List ℕ) where
 
   -- An operation asks the job's questions and then its own, whichever these are.
   module _ (own : List Question) where
-    -- A job that failed the former question 5 for this alone ..
+    -- A job that failed the former question 5 for this alone was refused with 5.
     pub was-5 : StraySinkAlone job → firstNo (formerJobQuestions job ++ own) ≡ 5
     unfolding formerJobQuestions jobQuestions
     was-5 a = past-4 a _ ∙ firstNo-no 5 _ (formerQuestion5 c job) (rw (clause c job, clause-fails (a .stray)) (and-false (question5 c job)))
 
-    -- .. is refused with the first of 6 to 9 that it fails, or else with 10.
+    -- It is now refused with the first of 6 to 9 that it fails, or else with 10.
     pub is-6-to-10 : StraySinkAlone job → firstNo (jobQuestions job ++ own) ≡ sixToNineOr10
     unfolding jobQuestions
     is-6-to-10 a = past-4 a _ ∙ firstNo-yes 5 _ (question5 c job) (is-true (question5 c job) (unnamed-only c job .1 (a .unnamed))) ∙ at-10 (question10 c job) _ (question10-fails (a .stray))
@@ -168,7 +168,7 @@ module _ (job : List ℕ) where
             (every-or (c .segments) (sinkOrZero c job))
 
 -- Five such jobs, each J1 with its sink byte, at 67, taken away: with a width resistance of 0 (at 4), with equal width resistances (at 20), with
--- the lowest index of its stage above the highest (at 50), with its segment hanging on itself (at 66), and with nothing else wrong.
+-- the lowest index of its stage above the highest (at 50), with its segment hanging on itself (at 66), and with nothing else that 6 to 9 ask.
 abbrev sinkless : List ℕ
 sinkless = set J1 67 0
 
