@@ -83,8 +83,24 @@ pub record StraySinkAlone (job : List ℕ) : Type 0 where
   pub unnamed : UnnamedZero (countsOf job) job
   pub stray : StraySink (countsOf job) job
 
+-- Five such jobs, each J1 with its sink byte, at 67, taken away: with a width resistance of 0 (at 4), with equal width resistances (at 20), with
+-- the lowest index of its stage above the highest (at 50), with its segment hanging on itself (at 66), and with all else as in J1.
+abbrev sinkless : List ℕ
+sinkless = set J1 67 0
+
+abbrev strayJobs : List (List ℕ)
+strayJobs = set sinkless 4 0 ∷ set sinkless 20 4 ∷ set sinkless 50 1 ∷ set sinkless 66 1 ∷ sinkless ∷ []
+
+pub are-6-to-10 : map refusal strayJobs ≡ 6 ∷ 7 ∷ 8 ∷ 9 ∷ 10 ∷ []
+unfolding every count countsOf question1 question2 question3 question4 zeros question5 question6 question7 question8 question9 sinkOrZero question10 firstNo jobQuestions refusal littleEndian
+are-6-to-10 = refl
+
+pub all-were-5 : map (λ job. firstNo (formerJobQuestions job)) strayJobs ≡ 5 ∷ 5 ∷ 5 ∷ 5 ∷ 5 ∷ []
+unfolding every count countsOf question1 question2 question3 question4 zeros sinkOrZero formerQuestion5 firstNo jobQuestions formerJobQuestions littleEndian
+all-were-5 = refl
+
 module _ {c : Counts} {b : List ℕ} where
-  -- there the clause fails, of the former question 5 and of question 10
+  -- at a stray sink the clause fails, of the former question 5 and of question 10
   stray-fails : (y : StraySink c b) → sinkOrZero c b (y .segment) ≡ false
   unfolding sinkOrZero
   stray-fails y = go (y .figure)
@@ -166,19 +182,3 @@ module _ (job : List ℕ) where
             (λ all. at-every (c .segments) (sinkOrZero c job) all)
             (λ w. absurd (n record { one = one; two = two; three = three; four = four; unnamed = unnamed-only c job .0 five; stray = stray-found (w .0) (w .1) (w .2) }))
             (every-or (c .segments) (sinkOrZero c job))
-
--- Five such jobs, each J1 with its sink byte, at 67, taken away: with a width resistance of 0 (at 4), with equal width resistances (at 20), with
--- the lowest index of its stage above the highest (at 50), with its segment hanging on itself (at 66), and with nothing else that 6 to 9 ask.
-abbrev sinkless : List ℕ
-sinkless = set J1 67 0
-
-abbrev strayJobs : List (List ℕ)
-strayJobs = set sinkless 4 0 ∷ set sinkless 20 4 ∷ set sinkless 50 1 ∷ set sinkless 66 1 ∷ sinkless ∷ []
-
-pub all-were-5 : map (λ job. firstNo (formerJobQuestions job)) strayJobs ≡ 5 ∷ 5 ∷ 5 ∷ 5 ∷ 5 ∷ []
-unfolding every count countsOf question1 question2 question3 question4 zeros sinkOrZero formerQuestion5 firstNo jobQuestions formerJobQuestions littleEndian
-all-were-5 = refl
-
-pub are-6-to-10 : map refusal strayJobs ≡ 6 ∷ 7 ∷ 8 ∷ 9 ∷ 10 ∷ []
-unfolding every count countsOf question1 question2 question3 question4 zeros question5 question6 question7 question8 question9 sinkOrZero question10 firstNo jobQuestions refusal littleEndian
-are-6-to-10 = refl
