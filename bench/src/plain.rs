@@ -286,41 +286,37 @@ impl Net<'_> {
         }
     }
 
-    /// The sum over the stages of what each contributes to every sink.
-    fn stages_delay(&self, sizes: &[u8], tree: u64) -> u64 {
-        let mut sum = 0;
+    /// What all stages contribute to every sink, and what they charge: each its own output and what it drives.
+    fn stages_figures(&self, sizes: &[u8], tree: u64) -> (u64, u64) {
+        let (mut delay, mut load) = (0, 0);
         let mut driven = tree;
         for &k in sizes.iter().rev() {
             let size = &self.sizes[usize::from(k)];
-            sum += word(size, 4) * (word(size, 12) + driven);
+            let charged = word(size, 12) + driven;
+            delay += word(size, 4) * charged;
+            load += charged;
             driven = word(size, 8);
         }
-        sum
+        (delay, load)
     }
 
-    /// The scaled delay of a sizing, and the load of its tree.
-    fn delay<const PASS: bool>(&self, links: &Links, sizing: &[u8]) -> (u64, u64) {
+    /// The scaled delay and the load figure of a sizing: what its stages charge.
+    fn figures<const PASS: bool>(&self, links: &Links, sizing: &[u8]) -> (u64, u64) {
         let (sizes, widths) = sizing.split_at(self.stages.len());
         let tree = if PASS {
             self.tree_by_pass(widths)
         } else {
             self.branches(links, widths, links.first[0])
         };
-        (
-            tree.weight * (2 * self.stages_delay(sizes, tree.load)) + tree.delay,
-            tree.load,
-        )
-    }
-
-    fn gates(&self, sizes: &[u8]) -> u64 {
-        sizes[1..].iter().map(|&k| word(&self.sizes[usize::from(k)], 8)).sum()
+        let (stages, load) = self.stages_figures(sizes, tree.load);
+        (tree.weight * (2 * stages) + tree.delay, load)
     }
 
     /// The tie at a place, the rest held, by the whole delay at each index; its cost is the delay. x is left at some index.
     fn settle<const PASS: bool>(&self, links: &Links, x: &mut [u8], p: usize) -> Tie {
         Tie::among(self.lowest(p), self.highest(p), |k| {
             x[p] = k;
-            self.delay::<PASS>(links, x).0
+            self.figures::<PASS>(links, x).0
         })
     }
 
@@ -708,7 +704,7 @@ impl PassSearch<'_, '_> {
 fn search_whole(net: &Net, links: &Links, lower: &[u8], upper: &[u8], x: &mut [u8], found: &mut Found) {
     x.copy_from_slice(lower);
     loop {
-        found.keep(x, net.delay::<false>(links, x).0);
+        found.keep(x, net.figures::<false>(links, x).0);
         let Some(p) = (0..x.len()).find(|&p| x[p] < upper[p]) else {
             return;
         };
@@ -738,8 +734,7 @@ fn measure_by<const PASS: bool>(job: &[u8], sizing: &[u8]) -> Result<(u64, u64),
     let net = check(job, &mut links)?;
     check_sizing(&net, sizing)?;
     let sizing = &sizing[..net.places()];
-    let (delay, tree) = net.delay::<PASS>(&links, sizing);
-    Ok((delay, tree + net.gates(&sizing[..net.stages.len()])))
+    Ok(net.figures::<PASS>(&links, sizing))
 }
 
 /// Measures as (a).

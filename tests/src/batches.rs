@@ -11,7 +11,7 @@ use crate::limits::{largest_plans, limits};
 use crate::plan::Plan;
 use crate::questions::{read, stray_sink_alone};
 use crate::random::Random;
-use crate::reference::{Refined, refine};
+use crate::reference::{Refined, measure, refine};
 use crate::worked;
 
 /// The most allowed sizings of a small job.
@@ -22,6 +22,10 @@ pub const ONE_INDEX: &str = "refine at one index";
 pub const ONE_BEST: &str = "refine with one best index";
 pub const TIE: &str = "refine with a tie";
 pub const TIE_AT_0: &str = "refine with a tie at 0";
+
+/// A measure that is answered, where stage 0 is not the last and has an output: a figure without that output, with the last
+/// stage's alone, or with the gates twice is another one.
+pub const OUTPUTS: &str = "measure with an output before the last stage";
 
 /// A call on a job that passes 1 to 4 and has its unnamed bytes zero, but a capacitance or a weight where there is no sink.
 pub const STRAY_SINK: &str = "a stray sink alone";
@@ -39,15 +43,25 @@ fn operation(call: &Call) -> &'static str {
     }
 }
 
-/// What a call meets: a stray sink alone, of a call that tells its number; or what a refine that is answered meets at its place.
+/// What a call meets: a stray sink alone, of a call that tells its number; or what a measure or a refine that is answered meets.
 fn met(call: &Call) -> Option<&'static str> {
     match call {
         Call::Measure { job, .. } | Call::Refine { job, .. } | Call::Size { job, .. } if stray_sink_alone(job) => {
             Some(STRAY_SINK)
         }
+        Call::Measure { job, sizing, .. } => met_by(job, sizing),
         Call::Refine { job, sizing, place, .. } => met_at(job, sizing, *place),
         _ => None,
     }
+}
+
+/// What a measure that is answered meets.
+fn met_by(job: &[u8], sizing: &[u8]) -> Option<&'static str> {
+    if measure(job, sizing).number != 0 {
+        return None;
+    }
+    let net = read(job).expect("a job that is answered");
+    (net.stages > 1 && net.sizes[usize::from(sizing[0])].output > 0).then_some(OUTPUTS)
 }
 
 /// What a refine that is answered meets at its place; a tie at the delay 0 counts apart.

@@ -156,12 +156,12 @@ pub fn scaled_delay(net: &Net, sizing: &[u8]) -> u128 {
     delay
 }
 
-/// The load figure: all wires, all sinks, and the gates of stages 1 and up.
+/// The load figure: all wires, all sinks, the gates of stages 1 and up, and the outputs of all stages.
 pub fn load_figure(net: &Net, sizing: &[u8]) -> u128 {
-    let gates: u128 = (1..net.stages)
-        .map(|stage| u128::from(net.sizes[usize::from(sizing[stage])].gate))
-        .sum();
-    wires(net, sizing).whole_tree + gates
+    let size = |stage: usize| &net.sizes[usize::from(sizing[stage])];
+    let gates: u128 = (1..net.stages).map(|stage| u128::from(size(stage).gate)).sum();
+    let outputs: u128 = (0..net.stages).map(|stage| u128::from(size(stage).output)).sum();
+    wires(net, sizing).whole_tree + gates + outputs
 }
 
 /// The tie at a place, the rest held: of all allowed indices those that give the smallest delay.

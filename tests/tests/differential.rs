@@ -2,8 +2,8 @@
 #![cfg(feature = "library")]
 
 use numlejka_tests::batches::{
-    Counts, MOST_ALLOWED, ONE_BEST, ONE_INDEX, STRAY_SINK, TIE, count, damaged_calls, large_calls, largest_calls, limit_calls,
-    room_calls, small_calls, worked_calls,
+    Counts, MOST_ALLOWED, ONE_BEST, ONE_INDEX, OUTPUTS, STRAY_SINK, TIE, count, damaged_calls, large_calls, largest_calls,
+    limit_calls, room_calls, small_calls, worked_calls,
 };
 use numlejka_tests::calls::{Call, expected, hex};
 use numlejka_tests::interface::run;
@@ -45,11 +45,12 @@ fn compare_all(name: &str, calls: impl Iterator<Item = Call>) -> Counts {
     counts
 }
 
-/// Small random jobs over all four operations, among whose refines each kind of place comes thousands of times.
+/// Small random jobs over all four operations, among which measures that tell each output, and refines of each kind of place,
+/// come thousands of times.
 fn compare_small(name: &str, mut random: Random) {
     let calls = (0..SMALL_JOBS).flat_map(|_| small_calls(&mut random, MOST_ALLOWED));
     let counts = compare_all(name, calls);
-    for kind in [ONE_INDEX, ONE_BEST, TIE] {
+    for kind in [OUTPUTS, ONE_INDEX, ONE_BEST, TIE] {
         assert!(counts[&(kind, 0)] >= 2_000, "{kind}");
     }
 }

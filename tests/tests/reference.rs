@@ -73,7 +73,7 @@ fn j4_measures_refines_and_sizes() {
     assert_eq!(delay(&j4(), &[0, 0, 1]), 262);
     assert_eq!(delay(&j4(), &[0, 1, 0]), 270);
     assert_eq!(delay(&j4(), &[0, 1, 1]), 262);
-    assert_eq!(measure(&job, &[0, 0, 0]).load, 9);
+    assert_eq!(measure(&job, &[0, 0, 0]).load, 11);
     assert_eq!(refine(&job, &[0, 0, 1], 1).tie, tie(0, 1, 262));
     assert_eq!(refine(&job, &[0, 1, 0], 1).tie, tie(0, 0, 260));
     assert_eq!(refine(&job, &[0, 1, 0], 0).tie, tie(0, 0, 270));
@@ -90,6 +90,24 @@ fn j4_measures_refines_and_sizes() {
     .concat();
     assert_eq!(reply[..32], records);
     assert_eq!(reply[32..], marked(35)[32..]);
+}
+
+/// The load figure has each wire, each sink, each gate but that of stage 0, and each output once, each kind in digits of its own.
+#[test]
+fn each_load_is_counted_once() {
+    let plan = Plan {
+        widths: vec![[2, 1], [1, 2]],
+        sizes: vec![[3, 10, 1_000], [2, 20, 5_000], [1, 30, 2_000]],
+        stages: vec![[0, 0], [0, 2], [1, 2], [0, 1]],
+        segments: vec![
+            segment_with_sink(0, 1, 100, 1, [0, 1]),
+            segment_with_sink(1, 3, 500, 0, [0, 1]),
+        ],
+    };
+    let load = |sizing: &[u8]| measure(&plan.bytes(), sizing).load;
+    assert_eq!(load(&[0, 1, 2, 0, 0, 1]), 9_667);
+    assert_eq!(load(&[0, 0, 1, 0, 0, 0]), 8_644);
+    assert_eq!(load(&[0, 2, 2, 1, 1, 1]), 10_688);
 }
 
 /// Both ends of a tie reach its delay, and an index between them may be worse.

@@ -137,7 +137,7 @@ fn load() {
         measure(&j4(), &[0, 0, 0]),
         Ok(Figures {
             delay: 260,
-            load: 9
+            load: 11
         })
     );
 }

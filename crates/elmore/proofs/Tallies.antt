@@ -6,12 +6,12 @@ use native.Mathlib.Numerals.{add-one}
 use native.Mathlib.Omega.{arith}
 use Rattle.net.specs.declared.Counts.{Counts}
 use Rattle.net.specs.Net.{Net, netBy}
-use Rattle.net.specs.Delay.{branches, branch, ownLoad, segmentDelay, stagesDelay, delay, gatesLoad, loadFigure}
+use Rattle.net.specs.Delay.{branches, branch, ownLoad, segmentDelay, stagesDelay, delay}
 use Rattle.net.specs.Segments.{weightBelow, ownDelay}
 use Rattle.net.specs.Checked.{Ordered, Limited, InRanges}
 use Rattle.net.proofs.Questions.{ordered, limited}
 use Rattle.net.proofs.Bound.{forest-bounded, branches-bounded, weightBelow-small, ownLoad-small, charged-small, segmentDelay-small, ownDelay-small, driven-small}
-use Rattle.net.proofs.Exchange.{branches-whole, delay-inside}
+use Rattle.net.proofs.Exchange.{delay-inside}
 use Rattle.links.specs.Links.{First, siblings}
 use Rattle.links.proofs.Siblings.{siblings-none, siblings-branches, siblings-step}
 use Rattle.elmore.specs.declared.Segment.{Segment}
@@ -145,8 +145,3 @@ module _ {c : Counts} {job x : List ℕ} (ready : Ready c job x) where
 
     pub whole-delay : tree .weight * (2 * d) + tree .delay .0 ≡ delay net x
     whole-delay = rw (t .weight, t .delay, e) (sym (delay-inside net (o .parents) x))
-
-  -- the whole tree and the gates
-  pub whole-figure : (tree : Part) → Tally net x branches 0 tree → tree .load .0 + gatesLoad net x ≡ loadFigure net x
-  unfolding loadFigure
-  whole-figure tree t = omega (arith, t .load, branches-whole net (o .parents) (ownLoad net x))

@@ -1,10 +1,11 @@
--- What is counted up over a part of the tree.
+-- What is counted up over a part of the tree, over the stages, and of a whole sizing.
 use mathlib.Core.Path.{_≡_}
 use mathlib.Core.List.{List}
 use Prim.Native.Nat.{ℕ}
+use Rattle.lattice.specs.Lists.{sum}
 use Rattle.net.specs.Net.{Net}
-use Rattle.net.specs.Delay.{ownLoad, delay, loadFigure}
-use Rattle.net.specs.Segments.{ownDelay}
+use Rattle.net.specs.Delay.{ownLoad, stageDelay, delay, loadFigure}
+use Rattle.net.specs.Segments.{ownDelay, stageCharge}
 use Rattle.elmore.specs.declared.Part.{Part}
 use Rattle.elmore.specs.declared.DelayAndLoad.{DelayAndLoad}
 
@@ -14,7 +15,19 @@ pub record Tally (net : Net) (x : List ℕ) (part : Net → (ℕ → ℕ) → �
   pub load : r .load .0 ≡ part net (ownLoad net x) i
   pub delay : r .delay .0 ≡ part net (ownDelay net x) i
 
+-- r has the delay d and the load l.
+pub record Has (d l : ℕ) (r : DelayAndLoad) : Type 0 where
+  pub delay : r .delay .0 ≡ d
+  pub load : r .load .0 ≡ l
+
+-- r has what stage s contributes to every sink, and what it charges.
+abbrev pub StageOf : Net → List ℕ → ℕ → DelayAndLoad → Type 0
+StageOf net x s = Has (stageDelay net x s) (stageCharge net x s)
+
+-- r has what the stages before s contribute together, and what they charge.
+abbrev pub StagesOf : Net → List ℕ → ℕ → DelayAndLoad → Type 0
+StagesOf net x s = Has (sum s (stageDelay net x)) (sum s (stageCharge net x))
+
 -- r has the scaled delay and the load figure of the sizing x.
-pub record FiguresOf (net : Net) (x : List ℕ) (r : DelayAndLoad) : Type 0 where
-  pub delay : r .delay .0 ≡ delay net x
-  pub load : r .load .0 ≡ loadFigure net x
+abbrev pub FiguresOf : Net → List ℕ → DelayAndLoad → Type 0
+FiguresOf net x = Has (delay net x) (loadFigure net x)

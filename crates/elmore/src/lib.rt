@@ -6,11 +6,11 @@ use quantity::Delay;
 ghost use mathlib.Core.Path.{_≡_};
 ghost use Prim.Native.Nat.{_<_, _≤_};
 ghost use Rattle.net.specs.Net.{netBy};
-ghost use Rattle.net.specs.Delay.{branch as branchOf, branches as branchesOf, branchesLoad, stageLoad, stageDelay, stagesDelay, gatesLoad, delay as delayOf};
+ghost use Rattle.net.specs.Delay.{branch as branchOf, branches as branchesOf, branchesLoad, stageLoad, delay as delayOf};
 ghost use Rattle.links.specs.Links.{siblings, LinkedBy};
 ghost use Rattle.elmore.specs.Ready.{Ready};
 ghost use Rattle.elmore.specs.Step.{Fields, Empty, lag, RoomCharged, RoomBehind, Behind, RoomJoined, Joined};
-ghost use Rattle.elmore.specs.Tally.{Tally, FiguresOf};
+ghost use Rattle.elmore.specs.Tally.{Tally, StageOf, StagesOf, FiguresOf};
 
 // A segment with its wire at the sizing's width.
 pub struct Segment {
@@ -26,7 +26,7 @@ pub struct Part {
     pub delay: Delay,
 }
 
-// The scaled delay and the load figure of a sizing.
+// Of a sizing its scaled delay and its load figure; of a stage, or of all, what is contributed to every sink and what is charged.
 pub struct DelayAndLoad {
     pub delay: Delay,
     pub load: Capacitance,
@@ -165,70 +165,46 @@ fn stage_load(job: &[u8], counts: Counts, sizing: &[u8], tree: Capacitance, s: u
     job::gate(job, counts, size)
 }
 
-// What stage s contributes to every sink.
-fn stage(job: &[u8], counts: Counts, sizing: &[u8], tree: Capacitance, s: usize) -> Delay
+// What stage s contributes to every sink, and what it charges: its own output and what it drives.
+fn stage(job: &[u8], counts: Counts, sizing: &[u8], tree: Capacitance, s: usize) -> DelayAndLoad
     requires { ⌜ Ready counts (now job) (now sizing) ⌝ }
     requires { ⌜ tree .0 ≡ branchesLoad (netBy counts (now job)) (now sizing) 0 ⌝ }
     requires { ⌜ s < counts .stages ⌝ }
-    ensures { λ r. ⌜ r .0 ≡ stageDelay (netBy counts (now (job .entry))) (now (sizing .entry)) s ⌝ }
+    ensures { λ r. ⌜ StageOf (netBy counts (now (job .entry))) (now (sizing .entry)) s r ⌝ }
 {
     let size = job::index_at(sizing, s);
     let own = job::output(job, counts, size);
     let driven = stage_load(job, counts, sizing, tree, s);
     let resistance = job::driver_resistance(job, counts, size);
-    quantity::delay_through(resistance, quantity::add_capacitance(own, driven))
+    let charge = quantity::add_capacitance(own, driven);
+    DelayAndLoad {
+        delay: quantity::delay_through(resistance, charge),
+        load: charge,
+    }
 }
 
-// What all stages contribute to every sink.
-fn stages(job: &[u8], counts: Counts, sizing: &[u8], tree: Capacitance) -> Delay
+// What all stages contribute to every sink, and what they charge, in one pass.
+fn stages(job: &[u8], counts: Counts, sizing: &[u8], tree: Capacitance) -> DelayAndLoad
     requires { ⌜ Ready counts (now job) (now sizing) ⌝ }
     requires { ⌜ tree .0 ≡ branchesLoad (netBy counts (now job)) (now sizing) 0 ⌝ }
-    ensures { λ r. ⌜ r .0 ≡ stagesDelay (netBy counts (now (job .entry))) (now (sizing .entry)) ⌝ }
+    ensures { λ r. ⌜ StagesOf (netBy counts (now (job .entry))) (now (sizing .entry)) (counts .stages) r ⌝ }
 {
-    let mut sum = Delay(0);
+    let mut delay = Delay(0);
+    let mut charged = Capacitance(0);
     let mut s = 0;
     while s < counts.stages {
-        sum = quantity::add_delay(sum, stage(job, counts, sizing, tree, s));
+        let one = stage(job, counts, sizing, tree, s);
+        delay = quantity::add_delay(delay, one.delay);
+        charged = quantity::add_capacitance(charged, one.load);
         s += 1;
     }
-    sum
-}
-
-// The scaled delay, where the tree is counted up.
-fn driven(job: &[u8], counts: Counts, sizing: &[u8], tree: Part) -> Delay
-    requires { ⌜ Ready counts (now job) (now sizing) ⌝ }
-    requires { ⌜ Tally (netBy counts (now job)) (now sizing) branchesOf 0 tree ⌝ }
-    ensures { λ r. ⌜ r .0 ≡ delayOf (netBy counts (now (job .entry))) (now (sizing .entry)) ⌝ }
-{
-    let before = quantity::weighted(2, stages(job, counts, sizing, tree.load));
-    quantity::add_delay(quantity::weighted(tree.weight, before), tree.delay)
-}
-
-// The gates of stages 1 and up.
-fn gates(job: &[u8], counts: Counts, sizing: &[u8]) -> Capacitance
-    requires { ⌜ Ready counts (now job) (now sizing) ⌝ }
-    ensures { λ r. ⌜ r .0 ≡ gatesLoad (netBy counts (now (job .entry))) (now (sizing .entry)) ⌝ }
-{
-    let mut sum = Capacitance(0);
-    let mut s = 0;
-    while s + 1 < counts.stages {
-        let size = job::index_at(sizing, s + 1);
-        sum = quantity::add_capacitance(sum, job::gate(job, counts, size));
-        s += 1;
+    DelayAndLoad {
+        delay: delay,
+        load: charged,
     }
-    sum
 }
 
-// The scaled delay of a sizing.
-pub fn delay(job: &[u8], counts: Counts, first: &[usize], next: &[usize], sizing: &[u8]) -> Delay
-    requires { ⌜ Ready counts (now job) (now sizing) ⌝ }
-    requires { ⌜ LinkedBy counts (now job) (now first) (now next) ⌝ }
-    ensures { λ r. ⌜ r .0 ≡ delayOf (netBy counts (now (job .entry))) (now (sizing .entry)) ⌝ }
-{
-    driven(job, counts, sizing, whole(job, counts, first, next, sizing))
-}
-
-// The scaled delay and the load figure of a sizing.
+// The scaled delay and the load figure of a sizing. The figure is what the stages charge: each gate but the first, and the tree, is driven by one.
 pub fn figures(
     job: &[u8],
     counts: Counts,
@@ -241,8 +217,20 @@ pub fn figures(
     ensures { λ r. ⌜ FiguresOf (netBy counts (now (job .entry))) (now (sizing .entry)) r ⌝ }
 {
     let tree = whole(job, counts, first, next, sizing);
+    let chain = stages(job, counts, sizing, tree.load);
+    let before = quantity::weighted(2, chain.delay);
+    let figure = chain.load;
     DelayAndLoad {
-        delay: driven(job, counts, sizing, tree),
-        load: quantity::add_capacitance(tree.load, gates(job, counts, sizing)),
+        delay: quantity::add_delay(quantity::weighted(tree.weight, before), tree.delay),
+        load: figure,
     }
+}
+
+// The scaled delay of a sizing.
+pub fn delay(job: &[u8], counts: Counts, first: &[usize], next: &[usize], sizing: &[u8]) -> Delay
+    requires { ⌜ Ready counts (now job) (now sizing) ⌝ }
+    requires { ⌜ LinkedBy counts (now job) (now first) (now next) ⌝ }
+    ensures { λ r. ⌜ r .0 ≡ delayOf (netBy counts (now (job .entry))) (now (sizing .entry)) ⌝ }
+{
+    figures(job, counts, first, next, sizing).delay
 }

@@ -10,8 +10,8 @@ use lib.Dec.{eqb}
 use Rattle.lattice.specs.Lists.{at}
 use Rattle.lattice.specs.Lists.{sum}
 use Rattle.net.specs.Net.{Net}
-use Rattle.net.specs.Delay.{branches, capacitance, ownLoad, branchesLoad, segmentDelay, stageLoad, stageDelay, stagesDelay, delay, gatesLoad, loadFigure}
-use Rattle.net.specs.Segments.{forest, weightBelow, ownDelay}
+use Rattle.net.specs.Delay.{branches, capacitance, ownLoad, branchesLoad, segmentDelay, stageLoad, stageDelay, stagesDelay, delay}
+use Rattle.net.specs.Segments.{forest, weightBelow, ownDelay, stageCharge}
 use Rattle.net.specs.Checked.{Ordered, Limited, InRanges}
 use Rattle.net.proofs.Sum.{sum-bounded}
 use Rattle.net.proofs.Forest.{forest-from, forest-part}
@@ -34,6 +34,11 @@ module _ (net : Net) (o : Ordered net) (l : Limited net) where
   branches-bounded b {own} h q k =
       rw (branches-are net (o .parents) own q k, forest-from (net .parent) own (net .segments) (o .parents) (net .segments - q) q (omega arith))
       (forest-bounded b h (net .segments - q) q q (omega arith) (omega arith))
+
+  -- what each stage has is at most b
+  pub stages-bounded : (b : ℕ) {f : ℕ → ℕ} → ((s : ℕ) → s < net .stages → f s ≤ b) → (s : ℕ) → s ≤ net .stages → sum s f ≤ 4 * b
+  stages-bounded b {f} h s k =
+      let m : s ≤ 4 = omega (arith, l .stages) in omega (arith, sum-bounded s b f (λ r j. h r (omega arith)), mul-le-mul-right b m)
 
   pub weightBelow-small : (i : ℕ) → i < net .segments → weightBelow net i ≤ 16575
   unfolding weightBelow
@@ -73,25 +78,16 @@ module _ (net : Net) (o : Ordered net) (l : Limited net) where
             let k : suc s < net .stages = omega (arith, eqb-false (suc s) (net .stages) e) in
             omega (arith, l .gates (suc s) (at x (suc s)) k (a .high (suc s) (omega arith)))
 
-    -- what one stage adds
-    pub stageDelay-small : (s : ℕ) → s < net .stages → stageDelay net x s ≤ 1290000000000
-    stageDelay-small s h =
-        let k = a .high s (omega arith) in
-        let c : net .output (at x s) + stageLoad net x s ≤ 12900000 = omega (arith, l .outputs s (at x s) h k, stageLoad-small s h) in
-        mul-le-mul (l .drivers s (at x s) h k) c
+    -- what one stage charges, and what it adds
+    pub stageCharge-small : (s : ℕ) → s < net .stages → stageCharge net x s ≤ 12900000
+    stageCharge-small s h = omega (arith, l .outputs s (at x s) h (a .high s (omega arith)), stageLoad-small s h)
 
-    pub stages-small : (s : ℕ) → s ≤ net .stages → sum s (stageDelay net x) ≤ 5160000000000
-    stages-small s h =
-        let k : s ≤ 4 = omega (arith, l .stages) in
-        omega (
-          arith,
-          sum-bounded s 1290000000000 (stageDelay net x) (λ r m. stageDelay-small r (omega arith)),
-          mul-le-mul-right 1290000000000 k,
-        )
+    pub stageDelay-small : (s : ℕ) → s < net .stages → stageDelay net x s ≤ 1290000000000
+    stageDelay-small s h = mul-le-mul (l .drivers s (at x s) h (a .high s (omega arith))) (stageCharge-small s h)
 
     pub stagesDelay-small : stagesDelay net x ≤ 5160000000000
     unfolding stagesDelay
-    stagesDelay-small = stages-small (net .stages) (omega arith)
+    stagesDelay-small = stages-bounded 1290000000000 stageDelay-small (net .stages) (omega arith)
 
     -- what the stages add, weighted by all the sinks
     pub driven-small : branches net (net .weight) 0 * (2 * stagesDelay net x) ≤ 168422400000000000
@@ -102,23 +98,3 @@ module _ (net : Net) (o : Ordered net) (l : Limited net) where
     pub delay-fits : delay net x < 2 ^ 63
     delay-fits =
         rw (delay-inside net (o .parents) x) (omega (arith, driven-small, branches-bounded 42929250000000000 ownDelay-small 0 (omega arith)))
-
-    -- the gates of s stages from 1 on
-    pub gates-small : (s : ℕ) → s ≤ net .stages - 1 → sum s (λ r. net .gate (at x (suc r))) ≤ 400000
-    gates-small s h =
-        let k : s ≤ 4 = omega (arith, l .stages) in
-        omega (
-          arith,
-          sum-bounded s 100000 (λ r. net .gate (at x (suc r))) (λ r m. l .gates (suc r) (at x (suc r)) (omega arith) (a .high (suc r) (omega arith))),
-          mul-le-mul-right 100000 k,
-        )
-
-    pub loadFigure-small : loadFigure net x ≤ 13200000
-    unfolding gatesLoad loadFigure
-    loadFigure-small =
-        omega (
-          arith,
-          sum-bounded (net .segments) 200000 (ownLoad net x) ownLoad-small,
-          mul-le-mul-right 200000 (l .segments),
-          gates-small (net .stages - 1) (omega arith),
-        )

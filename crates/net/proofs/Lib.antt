@@ -2,6 +2,7 @@ pub mod Sum
 pub mod Forest
 pub mod Branches
 pub mod Exchange
+pub mod Charged
 pub mod Dominance
 pub mod Bound
 pub mod Places

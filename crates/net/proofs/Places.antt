@@ -11,7 +11,7 @@ use lib.ListN.{take}
 use lib.Seq.{getD-take}
 use Rattle.lattice.specs.Lists.{at, sum}
 use Rattle.net.specs.Net.{Net, places}
-use Rattle.net.specs.Delay.{branchesTo, ownLoad, branchLoad, branchesLoad, loadUnder, stageLoad, stageDelay, stagesDelay, segmentDelay, delay, gatesLoad, loadFigure}
+use Rattle.net.specs.Delay.{branchesTo, ownLoad, branchLoad, branchesLoad, loadUnder, stageLoad, stageDelay, stagesDelay, segmentDelay, delay, gatesLoad, outputsLoad, loadFigure}
 use Rattle.net.specs.Segments.{totalWeight, ownDelay}
 use Rattle.net.specs.Places.{placeWeight, drivenLoad, delayAt, loadAt, placeDelay, placeLoad}
 use Rattle.net.proofs.Sum.{sum-same, sum-scale}
@@ -123,10 +123,11 @@ module _ (net : Net) (falls : (i : ℕ) → i < net .segments → net .parent i 
 
 module _ (net : Net) where
   pub loadFigure-reads : (x y : List ℕ) → ((p : ℕ) → p < places net → at x p ≡ at y p) → loadFigure net x ≡ loadFigure net y
-  unfolding loadFigure gatesLoad
+  unfolding loadFigure gatesLoad outputsLoad
   loadFigure-reads x y same =
       let own = sum-same (net .segments) (ownLoad net x) (ownLoad net y) (λ i h. ap (λ (k : ℕ). net .wireCapacitance i k + net .sink i) (same (net .stages + i) (omega arith))) in
       let gates = sum-same (net .stages - 1) (λ s. net .gate (at x (suc s))) (λ s. net .gate (at y (suc s))) (λ s h. ap (net .gate) (same (suc s) (omega arith))) in
+      let outputs = sum-same (net .stages) (λ s. net .output (at x s)) (λ s. net .output (at y s)) (λ s h. ap (net .output) (same s (omega arith))) in
       omega arith
 
   pub loadFigure-take : (x : List ℕ) → loadFigure net (take (places net) x) ≡ loadFigure net x

@@ -11,7 +11,7 @@ use native.Mathlib.Omega.{arith}
 use borrow.Author.Tests.{lt-ltb, le-ltb, ne-eqb}
 use lib.Dec.{T, leb, ltb, eqb, leb→le, ltb→lt, lit≤}
 use lib.ListN.{length}
-use Rattle.lattice.specs.Lists.{at, every, tabulate}
+use Rattle.lattice.specs.Lists.{at, sum, every, tabulate}
 use Rattle.lattice.specs.Space.{Allowed, Falls, Rises, Boxed, inBox, within, Submodular}
 use Rattle.lattice.proofs.ListLaws.{and-T, T-and, every-at, length-tabulate, at-tabulate}
 use Rattle.lattice.proofs.Boxes.{inBox-iff}
@@ -19,12 +19,14 @@ use Rattle.lattice.proofs.Sums.{rises-steps, falls-steps}
 use Rattle.net.specs.declared.Counts.{Counts}
 use Rattle.net.specs.Job.{records, kind, count, countsOf, placesBy, rowResistance, rowCapacitance, sizeResistance, sizeGate, sizeOutput, stageLowest, stageHighest, segmentParent, segmentSink, segmentLength, sinkCapacitance, sinkWeight, segmentLowest, segmentHighest}
 use Rattle.net.specs.Net.{Net, places, netBy, netOf}
-use Rattle.net.specs.Delay.{delay}
+use Rattle.net.specs.Delay.{delay, loadFigure}
+use Rattle.net.specs.Segments.{stageCharge}
 use Rattle.net.specs.Sizings.{allowed}
 use Rattle.net.specs.Questions.{inRange, question1, question2, question3, question4, sinkOrZero, question5, question6, question7, question8, question9, question10, question11, Question, ask, firstNo, jobQuestions, refusal}
 use Rattle.net.specs.Checked.{Held, Checked, InRanges, Ordered, Limited}
 use Rattle.net.proofs.Dominance.{delay-submodular}
 use Rattle.net.proofs.Bound.{delay-fits}
+use Rattle.net.proofs.Charged.{load-charged}
 
 -- where no question fails, the first passes and so do the rest
 pub firstNo-zero : (n : ℕ) (q : Bool) (qs : List Question) → firstNo (ask (suc n) q ∷ qs) ≡ 0 → T q × (firstNo qs ≡ 0)
@@ -302,6 +304,10 @@ module _ {c : Counts} {b : List ℕ} (k : Checked c b) where
   pub checked-fits : (x : List ℕ) → Allowed (allowed (netBy c b)) x → delay (netBy c b) x < 2 ^ 63
   checked-fits x a = delay-fits (netBy c b) (ordered k) (limited k) x (allowed-ranges (netBy c b) x a)
 
+  -- the load figure is what the stages charge together
+  pub checked-charged : (x : List ℕ) → sum (c .stages) (stageCharge (netBy c b) x) ≡ loadFigure (netBy c b) x
+  checked-charged x = load-charged (netBy c b) x (k .someStage) (k .parents)
+
 -- The same of every job that passes questions 1 to 11.
 module _ (b : List ℕ) (e : refusal b ≡ 0) where
   pub job-allowed : Allowed (allowed (netOf b)) (lowestSizing (netOf b))
@@ -312,3 +318,6 @@ module _ (b : List ℕ) (e : refusal b ≡ 0) where
 
   pub job-fits : (x : List ℕ) → Allowed (allowed (netOf b)) x → delay (netOf b) x < 2 ^ 63
   job-fits = checked-fits (checked b e)
+
+  pub job-charged : (x : List ℕ) → sum (netOf b .stages) (stageCharge (netOf b) x) ≡ loadFigure (netOf b) x
+  job-charged = checked-charged (checked b e)

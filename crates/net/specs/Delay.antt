@@ -85,6 +85,10 @@ module _ (net : Net) (x : List ℕ) where
   unfoldable pub gatesLoad : ℕ
   gatesLoad = sum (net .stages - 1) (λ s. net .gate (at x (suc s)))
 
-  -- The load figure, a term of the specification: wire capacitance + sinks + gates of stages 1 and up, each once.
+  -- The outputs of all stages, stage 0 included.
+  unfoldable pub outputsLoad : ℕ
+  outputsLoad = sum (net .stages) (λ s. net .output (at x s))
+
+  -- The load figure, a term of the specification: wire capacitance + sinks + gates of stages 1 and up + outputs of all stages, each once.
   unfoldable pub loadFigure : ℕ
-  loadFigure = sum (net .segments) ownLoad + gatesLoad
+  loadFigure = sum (net .segments) ownLoad + gatesLoad + outputsLoad

@@ -1,12 +1,12 @@
--- The scaled delay once more, segment by segment: what the code computes and its contracts cite. `proofs/Exchange` shows that it is the delay
--- of `specs/Delay`, so a reader need not believe this file.
+-- The scaled delay once more, segment by segment, and what each stage charges: what the code computes and its contracts cite. `proofs/Exchange`
+-- and `proofs/Charged` show that they make the delay and the load figure of `specs/Delay`, so a reader need not believe this file.
 use mathlib.Core.Bool.{cond}
 use mathlib.Core.List.{List}
 use Prim.Native.Nat.{ℕ, zero, suc, _+_, _*_}
 use lib.Dec.{eqb}
-use Rattle.lattice.specs.Lists.{sum}
+use Rattle.lattice.specs.Lists.{at, sum}
 use Rattle.net.specs.Net.{Net}
-use Rattle.net.specs.Delay.{branches, branch, segmentDelay}
+use Rattle.net.specs.Delay.{branches, branch, stageLoad, segmentDelay}
 
 -- Of the d segments from j on: those that hang at the node q, with all below them, each counted by what it owns.
 unfoldable pub forest : (ℕ → ℕ) → (ℕ → ℕ) → ℕ → ℕ → ℕ → ℕ
@@ -29,3 +29,7 @@ module _ (net : Net) (x : List ℕ) where
   -- The scaled delay that arises inside the branches at the node q.
   abbrev pub inside : ℕ → ℕ
   inside q = branches net ownDelay q
+
+  -- What stage s charges: its own output and what it drives.
+  abbrev pub stageCharge : ℕ → ℕ
+  stageCharge s = net .output (at x s) + stageLoad net x s

@@ -1,7 +1,7 @@
 //! Writes a file of framed calls and a file of the lines that they have to give.
 
 use numlejka_tests::batches::{
-    Counts, STRAY_SINK, count_expected, damaged_calls, large_calls, limit_calls, room_calls, small_calls, worked_calls,
+    Counts, OUTPUTS, STRAY_SINK, count_expected, damaged_calls, large_calls, limit_calls, room_calls, small_calls, worked_calls,
 };
 use numlejka_tests::calls::Call;
 use numlejka_tests::random::{Random, SEED};
@@ -78,6 +78,7 @@ fn main() -> std::io::Result<()> {
     let frames: Vec<u8> = calls.iter().flat_map(Call::frame).collect();
     let lines: String = calls.iter().map(|call| call.printed() + "\n").collect();
     assert!(frames.len() < MOST_BYTES);
+    assert!(lines.contains("measure 0 260 11\n"), "J4 is measured at (0, 0, 0)");
     std::fs::write(&files[0], &frames)?;
     std::fs::write(&files[1], lines)?;
     let mut counts = Counts::new();
@@ -96,6 +97,7 @@ fn main() -> std::io::Result<()> {
         (6..=10).all(|number| counts.contains_key(&(STRAY_SINK, number))),
         "a stray sink alone comes with each of 6 to 10"
     );
+    assert!(counts[&(OUTPUTS, 0)] >= 100, "many loads tell each stage's output");
     println!("seed {SEED:#x}, {} calls, {} bytes, {counts:?}", calls.len(), frames.len());
     Ok(())
 }

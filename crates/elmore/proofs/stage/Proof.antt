@@ -1,7 +1,7 @@
 -- `elmore::stage` meets its contract: the bounds of the net give room.
 use mathlib.Core.Path.{_∙_}
 use native.Mathlib.Omega.{arith}
-use Rattle.elmore.proofs.Drives.{size-held, output-room, stage-is, stage-room}
+use Rattle.elmore.proofs.Drives.{size-held, stage-charged, charge-small, stage-is, stage-room}
 use borrow.Author.Needs.{needs}
 use Rattle.elmore.proofs.stage.Statement.{statement}
 use Rattle.elmore.proofs.stage.Tie as tie
@@ -27,7 +27,8 @@ driver-resistance-requires c κs =
 add-capacitance-requires : tie.Need-add-capacitance-requires
 add-capacitance-requires c κs =
     let b = c .before .before .before .before .before .before in
-    output-room (b .pre .0) (b .args .s) _ _ _ (b .pre .1 .1) (c .before .before .before .index-at .ensures .0) (c .before .before .output .ensures) (c .before .stage-load .ensures)
+    let size = c .before .before .before .index-at .ensures .0 in
+    omega (arith, charge-small (b .pre .0) (b .args .s) _ _ _ (b .pre .1 .1) size (c .before .before .output .ensures) (c .before .stage-load .ensures))
 
 delay-through-requires : tie.Need-delay-through-requires
 delay-through-requires c κs =
@@ -38,9 +39,15 @@ delay-through-requires c κs =
 returns : tie.Need-returns
 returns c =
     let b = c .before .before .before .before .before .before .before .before in
-    c .delay-through .ensures .0 ∙
-    stage-is (b .pre .0) (b .args .s) _ _ _ (b .pre .1 .1) (c .before .before .before .before .before .index-at .ensures .0) (c .before .before .before .before .output .ensures) (c .before .before .before .stage-load .ensures)
-    _ _ (c .before .before .driver-resistance .ensures) (c .before .add-capacitance .ensures .0)
+    let h = b .pre .1 .1 in
+    let size = c .before .before .before .before .before .index-at .ensures .0 in
+    let own = c .before .before .before .before .output .ensures in
+    let driven = c .before .before .before .stage-load .ensures in
+    let charged = c .before .add-capacitance .ensures .0 in
+    record {
+      delay = c .delay-through .ensures .0 ∙ stage-is (b .pre .0) (b .args .s) _ _ _ h size own driven _ _ (c .before .before .driver-resistance .ensures) charged;
+      load = omega (arith, charged, stage-charged (b .pre .0) (b .args .s) _ _ _ h size own driven);
+    }
 
 pub stage-spec : {M : Type 1} → statement M
 stage-spec =

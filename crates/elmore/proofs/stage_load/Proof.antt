@@ -1,9 +1,11 @@
 -- `elmore::stage_load` meets its contract: both ways are the definition's.
 use mathlib.Core.Path.{sym, ap, _∙_}
 use Prim.Native.Nat.{_+_}
+use native.Mathlib.Numerals.{add-one}
 use native.Mathlib.Omega.{arith}
 use Rattle.net.specs.Net.{netBy}
-use Rattle.elmore.proofs.Drives.{last-drives, other-drives, size-held}
+use Rattle.net.proofs.Charged.{last-drives, other-drives}
+use Rattle.elmore.proofs.Drives.{size-held}
 use borrow.Author.Needs.{needs}
 use Rattle.elmore.proofs.stage_load.Statement.{statement}
 use Rattle.elmore.proofs.stage_load.Tie as tie
@@ -32,7 +34,8 @@ returns-2 : tie.Need-returns-2
 returns-2 c =
     let b = c .before .before .before .before .before .before in
     let n = netBy (b .args .counts) (b .args .job .now) in
-    c .gate .ensures ∙ ap (n .gate) (c .before .index-at .ensures .0) ∙ sym (other-drives n (b .args .sizing .now) (b .args .s) (c .before .before .if1 .left))
+    let e = rw add-one at (c .before .index-at .ensures .0) in
+    c .gate .ensures ∙ ap (n .gate) e ∙ sym (other-drives n (b .args .sizing .now) (b .args .s) (λ h. c .before .before .if1 .left (omega arith)))
 
 pub stage-load-spec : {M : Type 1} → statement M
 stage-load-spec =
