@@ -68,7 +68,8 @@ extern "C" {
 
 /*
  * Measures a sizing. Returns the number; with 0 the scaled delay of the sizing is in *delay and its load figure in
- * *load, with every other number both are as they were.
+ * *load, with every other number both are as they were. The load figure is the capacitance of all wires, all sinks, the
+ * gates of stages 1 and up, and the outputs of all stages, stage 0 included, each once.
  */
 size_t numlejka_measure(const uint8_t *job, size_t job_length,
                         const uint8_t *sizing, size_t sizing_length,

@@ -28,7 +28,8 @@ pub mod c;
 
 use std::fmt;
 
-/// The scaled delay and the load figure of a sizing.
+/// The scaled delay and the load figure of a sizing. The load figure is the capacitance of all wires, all sinks, the gates
+/// of stages 1 and up, and the outputs of all stages, stage 0 included, each once.
 #[derive(Clone, Copy, Debug, PartialEq, Eq)]
 pub struct Figures {
     pub delay: u64,
