@@ -204,19 +204,13 @@ fn stages(job: &[u8], counts: Counts, sizing: &[u8], tree: Capacitance) -> Delay
     }
 }
 
-// The scaled delay and the load figure of a sizing. The figure is what the stages charge: each gate but the first, and the tree, is driven by one.
-pub fn figures(
-    job: &[u8],
-    counts: Counts,
-    first: &[usize],
-    next: &[usize],
-    sizing: &[u8],
-) -> DelayAndLoad
+// The scaled delay and the load figure, where the tree is counted up. The figure is what the stages charge: each gate but the first, and the tree,
+// is driven by one.
+fn driven(job: &[u8], counts: Counts, sizing: &[u8], tree: Part) -> DelayAndLoad
     requires { ⌜ Ready counts (now job) (now sizing) ⌝ }
-    requires { ⌜ LinkedBy counts (now job) (now first) (now next) ⌝ }
+    requires { ⌜ Tally (netBy counts (now job)) (now sizing) branchesOf 0 tree ⌝ }
     ensures { λ r. ⌜ FiguresOf (netBy counts (now (job .entry))) (now (sizing .entry)) r ⌝ }
 {
-    let tree = whole(job, counts, first, next, sizing);
     let chain = stages(job, counts, sizing, tree.load);
     let before = quantity::weighted(2, chain.delay);
     let figure = chain.load;
@@ -232,5 +226,20 @@ pub fn delay(job: &[u8], counts: Counts, first: &[usize], next: &[usize], sizing
     requires { ⌜ LinkedBy counts (now job) (now first) (now next) ⌝ }
     ensures { λ r. ⌜ r .0 ≡ delayOf (netBy counts (now (job .entry))) (now (sizing .entry)) ⌝ }
 {
-    figures(job, counts, first, next, sizing).delay
+    driven(job, counts, sizing, whole(job, counts, first, next, sizing)).delay
+}
+
+// The scaled delay and the load figure of a sizing.
+pub fn figures(
+    job: &[u8],
+    counts: Counts,
+    first: &[usize],
+    next: &[usize],
+    sizing: &[u8],
+) -> DelayAndLoad
+    requires { ⌜ Ready counts (now job) (now sizing) ⌝ }
+    requires { ⌜ LinkedBy counts (now job) (now first) (now next) ⌝ }
+    ensures { λ r. ⌜ FiguresOf (netBy counts (now (job .entry))) (now (sizing .entry)) r ⌝ }
+{
+    driven(job, counts, sizing, whole(job, counts, first, next, sizing))
 }

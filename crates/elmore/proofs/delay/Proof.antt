@@ -3,11 +3,14 @@ use borrow.Author.Needs.{needs}
 use Rattle.elmore.proofs.delay.Statement.{statement}
 use Rattle.elmore.proofs.delay.Tie as tie
 
-figures-requires : tie.Need-figures-requires
-figures-requires c κs = search needs
+whole-requires : tie.Need-whole-requires
+whole-requires c κs = search needs
+
+driven-requires : tie.Need-driven-requires
+driven-requires c κs = search needs
 
 returns : tie.Need-returns
-returns c = c .before .figures .ensures .delay
+returns c = c .before .driven .ensures .delay
 
 pub delay-spec : {M : Type 1} → statement M
-delay-spec = tie.close (tie.spec figures-requires returns)
+delay-spec = tie.close (tie.spec whole-requires driven-requires returns)

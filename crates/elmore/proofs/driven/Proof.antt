@@ -1,4 +1,4 @@
--- `elmore::figures` meets its contract: the sum over segments is the sum over sinks, and what the stages charge is the load figure.
+-- `elmore::driven` meets its contract: the sum over segments is the sum over sinks, and what the stages charge is the load figure.
 use mathlib.Core.Path.{_∙_}
 use native.Mathlib.Omega.{arith}
 use Rattle.net.specs.Delay.{stagesDelay}
@@ -6,11 +6,8 @@ use Rattle.net.proofs.Questions.{ordered, limited, checked-charged}
 use Rattle.net.proofs.Bound.{stagesDelay-small, delay-fits}
 use Rattle.elmore.proofs.Tallies.{whole-driven, whole-delay}
 use borrow.Author.Needs.{needs}
-use Rattle.elmore.proofs.figures.Statement.{statement}
-use Rattle.elmore.proofs.figures.Tie as tie
-
-whole-requires : tie.Need-whole-requires
-whole-requires c κs = search needs
+use Rattle.elmore.proofs.driven.Statement.{statement}
+use Rattle.elmore.proofs.driven.Tie as tie
 
 stages-requires : tie.Need-stages-requires
 stages-requires c κs = search needs
@@ -18,24 +15,25 @@ stages-requires c κs = search needs
 weighted-requires : tie.Need-weighted-requires
 unfolding stagesDelay
 weighted-requires c κs =
-    let r = c .before .before .before .before .before .before .pre .0 in
+    let r = c .before .before .before .pre .0 in
     let k = r .checked in
     omega (arith, c .stages .ensures .delay, stagesDelay-small _ (ordered k) (limited k) _ (r .inRanges))
 
 weighted-requires-2 : tie.Need-weighted-requires-2
 unfolding stagesDelay
 weighted-requires-2 c κs =
-    let r = c .before .before .before .before .before .before .before .before .pre .0 in
-    rw (c .before .weighted .ensures .0) (whole-driven r _ (c .before .before .before .whole .ensures) _ (c .before .before .stages .ensures .delay))
+    let b = c .before .before .before .before .before in
+    rw (c .before .weighted .ensures .0) (whole-driven (b .pre .0) _ (b .pre .1) _ (c .before .before .stages .ensures .delay))
 
 add-delay-requires : tie.Need-add-delay-requires
 unfolding stagesDelay
 add-delay-requires c κs =
-    let r = c .before .before .before .before .before .before .before .before .before .pre .0 in
+    let b = c .before .before .before .before .before .before in
+    let r = b .pre .0 in
     let k = r .checked in
     omega (
       arith,
-      whole-delay r _ (c .before .before .before .before .whole .ensures) _ (c .before .before .before .stages .ensures .delay),
+      whole-delay r _ (b .pre .1) _ (c .before .before .before .stages .ensures .delay),
       delay-fits _ (ordered k) (limited k) _ (r .inRanges),
       rw (c .before .before .weighted .ensures .0) at (c .weighted2 .ensures .0),
     )
@@ -43,16 +41,15 @@ add-delay-requires c κs =
 returns : tie.Need-returns
 unfolding stagesDelay
 returns c =
-    let r = c .before .before .before .before .before .before .before .before .before .before .pre .0 in
-    let k = r .checked in
+    let b = c .before .before .before .before .before .before .before in
     let chain = c .before .before .before .before .stages .ensures in
-    let whole = whole-delay r _ (c .before .before .before .before .before .whole .ensures) _ (chain .delay) in
+    let whole = whole-delay (b .pre .0) _ (b .pre .1) _ (chain .delay) in
     record {
       delay = omega (arith, whole, rw (c .before .before .before .weighted .ensures .0) at (c .before .weighted2 .ensures .0));
-      load = chain .load ∙ checked-charged k _;
+      load = chain .load ∙ checked-charged (b .pre .0 .checked) _;
     }
 
-pub figures-spec : {M : Type 1} → statement M
-figures-spec =
+pub driven-spec : {M : Type 1} → statement M
+driven-spec =
     tie.close
-    (tie.spec whole-requires stages-requires weighted-requires weighted-requires-2 add-delay-requires returns)
+    (tie.spec stages-requires weighted-requires weighted-requires-2 add-delay-requires returns)
