@@ -1,4 +1,5 @@
 /* Measures a sizing of the job on standard input, an index a word, and prints its scaled delay and its load figure. */
+#include <ctype.h>
 #include <stdio.h>
 #include <stdlib.h>
 
@@ -9,16 +10,18 @@ static uint8_t job[65537];
 
 int main(int count, char **words)
 {
+    /* No job has more than 68 places, and indices behind the last place make no difference. */
     uint8_t sizing[68];
     size_t places = 0;
     for (int i = 1; i < count; i++) {
         char *end;
         unsigned long index = strtoul(words[i], &end, 10);
-        if (end == words[i] || *end != '\0' || index > 255 || places == sizeof sizing) {
+        if (!isdigit((unsigned char)words[i][0]) || *end != '\0' || index > 255) {
             fprintf(stderr, "usage: measure INDEX.. <JOB\n");
             return 2;
         }
-        sizing[places++] = (uint8_t)index;
+        if (places < sizeof sizing)
+            sizing[places++] = (uint8_t)index;
     }
     size_t length = fread(job, 1, sizeof job, stdin);
     if (ferror(stdin)) {

@@ -25,7 +25,7 @@ pub const TIE_AT_0: &str = "refine with a tie at 0";
 
 /// A measure that is answered, where stage 0 is not the last and has an output: a figure without that output, with the last
 /// stage's alone, or with the gates twice is another one.
-pub const OUTPUTS: &str = "measure with an output before the last stage";
+pub const OUTPUTS: &str = "measure with an output of stage 0, not the last";
 
 /// A call on a job that passes 1 to 4 and has its unnamed bytes zero, but a capacitance or a weight where there is no sink.
 pub const STRAY_SINK: &str = "a stray sink alone";

@@ -45,8 +45,8 @@ fn compare_all(name: &str, calls: impl Iterator<Item = Call>) -> Counts {
     counts
 }
 
-/// Small random jobs over all four operations, among which measures that tell each output, and refines of each kind of place,
-/// come thousands of times.
+/// Small random jobs over all four operations, among which measures with an output of stage 0 before another stage, and refines
+/// of each kind of place, come thousands of times.
 fn compare_small(name: &str, mut random: Random) {
     let calls = (0..SMALL_JOBS).flat_map(|_| small_calls(&mut random, MOST_ALLOWED));
     let counts = compare_all(name, calls);

@@ -4,7 +4,7 @@ use mathlib.Core.List.{List}
 use Prim.Native.Nat.{ℕ}
 use Rattle.lattice.specs.Lists.{sum}
 use Rattle.net.specs.Net.{Net}
-use Rattle.net.specs.Delay.{ownLoad, stageDelay, delay, loadFigure}
+use Rattle.net.specs.Delay.{ownLoad, stageDelay, stagesDelay, delay, loadFigure}
 use Rattle.net.specs.Segments.{ownDelay, stageCharge}
 use Rattle.elmore.specs.declared.Part.{Part}
 use Rattle.elmore.specs.declared.DelayAndLoad.{DelayAndLoad}
@@ -24,9 +24,9 @@ pub record Has (d l : ℕ) (r : DelayAndLoad) : Type 0 where
 abbrev pub StageOf : Net → List ℕ → ℕ → DelayAndLoad → Type 0
 StageOf net x s = Has (stageDelay net x s) (stageCharge net x s)
 
--- r has what the stages before s contribute together, and what they charge.
-abbrev pub StagesOf : Net → List ℕ → ℕ → DelayAndLoad → Type 0
-StagesOf net x s = Has (sum s (stageDelay net x)) (sum s (stageCharge net x))
+-- r has what all stages contribute to every sink, and what they charge.
+abbrev pub StagesOf : Net → List ℕ → DelayAndLoad → Type 0
+StagesOf net x = Has (stagesDelay net x) (sum (net .stages) (stageCharge net x))
 
 -- r has the scaled delay and the load figure of the sizing x.
 abbrev pub FiguresOf : Net → List ℕ → DelayAndLoad → Type 0

@@ -187,7 +187,7 @@ fn stage(job: &[u8], counts: Counts, sizing: &[u8], tree: Capacitance, s: usize)
 fn stages(job: &[u8], counts: Counts, sizing: &[u8], tree: Capacitance) -> DelayAndLoad
     requires { ⌜ Ready counts (now job) (now sizing) ⌝ }
     requires { ⌜ tree .0 ≡ branchesLoad (netBy counts (now job)) (now sizing) 0 ⌝ }
-    ensures { λ r. ⌜ StagesOf (netBy counts (now (job .entry))) (now (sizing .entry)) (counts .stages) r ⌝ }
+    ensures { λ r. ⌜ StagesOf (netBy counts (now (job .entry))) (now (sizing .entry)) r ⌝ }
 {
     let mut delay = Delay(0);
     let mut charged = Capacitance(0);
@@ -213,10 +213,10 @@ fn driven(job: &[u8], counts: Counts, sizing: &[u8], tree: Part) -> DelayAndLoad
 {
     let chain = stages(job, counts, sizing, tree.load);
     let before = quantity::weighted(2, chain.delay);
-    let figure = chain.load;
+    let load = chain.load;
     DelayAndLoad {
         delay: quantity::add_delay(quantity::weighted(tree.weight, before), tree.delay),
-        load: figure,
+        load: load,
     }
 }
 

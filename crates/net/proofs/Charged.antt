@@ -1,5 +1,6 @@
 -- The load figure is what all stages charge, each its own output and what it drives: the gates from stage 1 on and the whole tree are driven by one
--- stage each. The source paper counts power so, and the code adds it up in the pass that the delay makes over the stages. Assumes nothing.
+-- stage each. The paper on buffers and wires counts the capacitance for power so, and the code adds it up in the delay's pass over the stages.
+-- Assumes nothing.
 use mathlib.Core.Path.{_≡_, sym, ap}
 use mathlib.Core.List.{List}
 use Prim.Native.Nat.{ℕ, suc, _+_, _-_, _≤_, _<_}

@@ -1,5 +1,5 @@
 -- What passed questions give: a job that passes questions 1 to 11 has the facts of `Checked`, so its net is ordered and within the limits, its
--- allowed sizings are closed and not empty, its delay is submodular on them and below 2 ^ 63.
+-- allowed sizings are closed and not empty, its delay is submodular on them and below 2 ^ 63, and its load figure is what its stages charge.
 use mathlib.Core.Path.{_≡_, refl}
 use mathlib.Core.Logic.{_↔_}
 use mathlib.Core.Bool.{Bool, true, false, cond, _&&_}

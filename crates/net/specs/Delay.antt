@@ -1,4 +1,4 @@
--- The Elmore delay of a sized net: the section 'Delay' of the specification, sink by sink along the path from the source.
+-- The Elmore delay of a sized net, sink by sink along the path from the source, and its load figure: the section 'Delay' of the specification.
 -- What a segment adds and the delay of a sink are twice the published ones, so that half of a segment's own capacitance is a whole number; what
 -- a stage adds is doubled with the delay of a sink.
 use mathlib.Core.Bool.{cond}

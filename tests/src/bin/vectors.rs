@@ -97,7 +97,10 @@ fn main() -> std::io::Result<()> {
         (6..=10).all(|number| counts.contains_key(&(STRAY_SINK, number))),
         "a stray sink alone comes with each of 6 to 10"
     );
-    assert!(counts[&(OUTPUTS, 0)] >= 100, "many loads tell each stage's output");
+    assert!(
+        counts[&(OUTPUTS, 0)] >= 100,
+        "many measures have an output of stage 0, which is not the last"
+    );
     println!("seed {SEED:#x}, {} calls, {} bytes, {counts:?}", calls.len(), frames.len());
     Ok(())
 }

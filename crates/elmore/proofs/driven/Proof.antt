@@ -1,7 +1,6 @@
 -- `elmore::driven` meets its contract: the sum over segments is the sum over sinks, and what the stages charge is the load figure.
 use mathlib.Core.Path.{_∙_}
 use native.Mathlib.Omega.{arith}
-use Rattle.net.specs.Delay.{stagesDelay}
 use Rattle.net.proofs.Questions.{ordered, limited, checked-charged}
 use Rattle.net.proofs.Bound.{stagesDelay-small, delay-fits}
 use Rattle.elmore.proofs.Tallies.{whole-driven, whole-delay}
@@ -13,20 +12,17 @@ stages-requires : tie.Need-stages-requires
 stages-requires c κs = search needs
 
 weighted-requires : tie.Need-weighted-requires
-unfolding stagesDelay
 weighted-requires c κs =
     let r = c .before .before .before .pre .0 in
     let k = r .checked in
     omega (arith, c .stages .ensures .delay, stagesDelay-small _ (ordered k) (limited k) _ (r .inRanges))
 
 weighted-requires-2 : tie.Need-weighted-requires-2
-unfolding stagesDelay
 weighted-requires-2 c κs =
     let b = c .before .before .before .before .before in
     rw (c .before .weighted .ensures .0) (whole-driven (b .pre .0) _ (b .pre .1) _ (c .before .before .stages .ensures .delay))
 
 add-delay-requires : tie.Need-add-delay-requires
-unfolding stagesDelay
 add-delay-requires c κs =
     let b = c .before .before .before .before .before .before in
     let r = b .pre .0 in
@@ -39,7 +35,6 @@ add-delay-requires c κs =
     )
 
 returns : tie.Need-returns
-unfolding stagesDelay
 returns c =
     let b = c .before .before .before .before .before .before .before in
     let chain = c .before .before .before .before .stages .ensures in

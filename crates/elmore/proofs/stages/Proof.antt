@@ -4,7 +4,7 @@ use Prim.Native.Nat.{ℕ, _≤_, _-_}
 use native.Mathlib.Omega.{arith}
 use Rattle.lattice.specs.Lists.{sum as total}
 use Rattle.net.specs.Net.{netBy}
-use Rattle.net.specs.Delay.{stageDelay}
+use Rattle.net.specs.Delay.{stageDelay, stagesDelay}
 use Rattle.net.specs.Segments.{stageCharge}
 use Rattle.net.proofs.Questions.{ordered, limited}
 use Rattle.net.proofs.Bound.{stageCharge-small, stageDelay-small}
@@ -59,6 +59,7 @@ loop-again c =
     )
 
 returns : tie.Need-returns Inv-loop μ-loop
+unfolding stagesDelay
 returns c =
     let b = c .before .before .before .before .before in
     let l = c .before .before .loop in
