@@ -2,8 +2,9 @@
 
 use crate::jobs::{self, Shape};
 
-/// What a case calls.
+/// What a case calls. The questions alone are a call of `size` with no room for a reply: it asks 1 to 11, and answers 12.
 pub enum Work {
+    Questions,
     Measure { sizing: Vec<u8> },
     Refine { sizing: Vec<u8>, place: usize },
     Size,
@@ -14,6 +15,14 @@ pub struct Case {
     pub name: String,
     pub job: Vec<u8>,
     pub work: Work,
+}
+
+fn questions(name: &str, stages: usize, segments: usize) -> Case {
+    Case {
+        name: format!("questions, {name}"),
+        job: jobs::net(stages, segments, Shape::Binary).bytes(),
+        work: Work::Questions,
+    }
 }
 
 fn measure(name: &str, stages: usize, segments: usize, shape: Shape) -> Case {
@@ -47,11 +56,16 @@ fn size(name: &str, job: Vec<u8>) -> Case {
 
 /// All cases, in the order of the table.
 pub fn all() -> Vec<Case> {
-    let mut cases = vec![
+    const SEGMENTS: [usize; 5] = [4, 8, 16, 32, 64];
+    let mut cases = Vec::new();
+    for segments in SEGMENTS {
+        cases.push(questions(&format!("1 stage, {segments} segments"), 1, segments));
+    }
+    cases.extend([
         measure("hardest: 4 stages, 64 segments", 4, 64, Shape::Binary),
         measure("median: 2 stages, 16 segments", 2, 16, Shape::Binary),
-    ];
-    for segments in [4, 8, 16, 32, 64] {
+    ]);
+    for segments in SEGMENTS {
         cases.push(measure(&format!("1 stage, {segments} segments"), 1, segments, Shape::Binary));
     }
     cases.push(measure("1 stage, 64 segments in a chain", 1, 64, Shape::Chain));

@@ -15,9 +15,10 @@ use timing::{Times, interleaved};
 /// A reply buffer that holds every reply. It is not cleared between calls.
 const REPLY: usize = 552;
 
-fn size_timed(job: &[u8], size: impl Fn(&[u8], &mut [u8]) -> usize) -> impl FnMut() {
+/// Calls of size with room for so many bytes of a reply.
+fn size_timed(job: &[u8], room: usize, size: impl Fn(&[u8], &mut [u8]) -> usize) -> impl FnMut() {
     let job = job.to_vec();
-    let mut reply = [0; REPLY];
+    let mut reply = vec![0; room];
     move || {
         black_box(size(black_box(&job), black_box(&mut reply)));
     }
@@ -42,9 +43,13 @@ fn refine_timed(
     }
 }
 
-/// The times of a case: the library, plain Rust (a), (c), and (b) where the case tries indices or sizings.
+/// The times of a case: the library, plain Rust (a), (c) where it evaluates a delay, and (b) where it tries indices or sizings.
 fn times(case: &Case) -> Times {
     match &case.work {
+        Work::Questions => interleaved(&mut [
+            &mut size_timed(&case.job, 0, library::size),
+            &mut size_timed(&case.job, 0, plain::size),
+        ]),
         Work::Measure { sizing } => interleaved(&mut [
             &mut measure_timed(&case.job, sizing, library::measure),
             &mut measure_timed(&case.job, sizing, plain::measure),
@@ -57,10 +62,10 @@ fn times(case: &Case) -> Times {
             &mut refine_timed(&case.job, sizing, *place, plain::refine_by_whole_delays),
         ]),
         Work::Size => interleaved(&mut [
-            &mut size_timed(&case.job, library::size),
-            &mut size_timed(&case.job, plain::size),
-            &mut size_timed(&case.job, plain::size_fastest),
-            &mut size_timed(&case.job, plain::size_by_whole_delays),
+            &mut size_timed(&case.job, REPLY, library::size),
+            &mut size_timed(&case.job, REPLY, plain::size),
+            &mut size_timed(&case.job, REPLY, plain::size_fastest),
+            &mut size_timed(&case.job, REPLY, plain::size_by_whole_delays),
         ]),
     }
 }
@@ -85,16 +90,20 @@ fn print_table(text: &str) {
     println!("|---|---|---|---|---|---|---|---|");
     for case in cases::all().into_iter().filter(|case| case.name.contains(text)) {
         let times = times(&case);
-        let [library, as_library, fastest] = [0, 1, 2].map(|side| figure(times.median(side)));
+        let [library, as_library] = [0, 1].map(|side| figure(times.median(side)));
+        let untimed = || "– | –".to_string();
+        let fastest = match &case.work {
+            Work::Questions => untimed(),
+            _ => format!("{} | {}", figure(times.median(2)), ratio(&times, 0, 2)),
+        };
         let whole = match &case.work {
-            Work::Measure { .. } => "– | –".to_string(),
+            Work::Questions | Work::Measure { .. } => untimed(),
             Work::Refine { .. } | Work::Size => format!("{} | {}", figure(times.median(3)), ratio(&times, 3, 0)),
         };
         println!(
-            "| {} | {library} | {as_library} | {} | {whole} | {fastest} | {} |",
+            "| {} | {library} | {as_library} | {} | {whole} | {fastest} |",
             case.name,
-            ratio(&times, 0, 1),
-            ratio(&times, 0, 2)
+            ratio(&times, 0, 1)
         );
     }
 }
@@ -111,6 +120,8 @@ fn only(words: &[String]) {
         .expect("a case has that name");
     let count: usize = count.parse().expect("COUNT is a number");
     let mut call: Box<dyn FnMut()> = match (&case.work, side.as_str()) {
+        (Work::Questions, "library") => Box::new(size_timed(&case.job, 0, library::size)),
+        (Work::Questions, _) => Box::new(size_timed(&case.job, 0, plain::size)),
         (Work::Measure { sizing }, "library") => Box::new(measure_timed(&case.job, sizing, library::measure)),
         (Work::Measure { sizing }, "c") => Box::new(measure_timed(&case.job, sizing, plain::measure_fastest)),
         (Work::Measure { sizing }, _) => Box::new(measure_timed(&case.job, sizing, plain::measure)),
@@ -118,10 +129,10 @@ fn only(words: &[String]) {
         (Work::Refine { sizing, place }, "c") => Box::new(refine_timed(&case.job, sizing, *place, plain::refine_fastest)),
         (Work::Refine { sizing, place }, "b") => Box::new(refine_timed(&case.job, sizing, *place, plain::refine_by_whole_delays)),
         (Work::Refine { sizing, place }, _) => Box::new(refine_timed(&case.job, sizing, *place, plain::refine)),
-        (Work::Size, "library") => Box::new(size_timed(&case.job, library::size)),
-        (Work::Size, "c") => Box::new(size_timed(&case.job, plain::size_fastest)),
-        (Work::Size, "b") => Box::new(size_timed(&case.job, plain::size_by_whole_delays)),
-        (Work::Size, _) => Box::new(size_timed(&case.job, plain::size)),
+        (Work::Size, "library") => Box::new(size_timed(&case.job, REPLY, library::size)),
+        (Work::Size, "c") => Box::new(size_timed(&case.job, REPLY, plain::size_fastest)),
+        (Work::Size, "b") => Box::new(size_timed(&case.job, REPLY, plain::size_by_whole_delays)),
+        (Work::Size, _) => Box::new(size_timed(&case.job, REPLY, plain::size)),
     };
     (0..count).for_each(|_| call());
 }

@@ -37,9 +37,13 @@ fn replies_are_the_same_on_all_jobs() {
 }
 
 #[test]
-fn every_case_is_answered() {
+fn every_case_does_its_work() {
     for case in cases::all() {
         match &case.work {
+            Work::Questions => {
+                assert_eq!(library::size(&case.job, &mut []), 12, "{}", case.name);
+                assert_eq!(plain::size(&case.job, &mut []), 12, "{}", case.name);
+            }
             Work::Measure { sizing } => {
                 let figures = library::measure(&case.job, sizing);
                 assert!(figures.is_ok(), "{}", case.name);

@@ -6,6 +6,7 @@ pub mod Charged
 pub mod Dominance
 pub mod Bound
 pub mod Places
+pub mod Records
 pub mod Questions
 pub mod Answers
 pub mod Ties

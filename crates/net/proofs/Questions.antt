@@ -13,7 +13,7 @@ use lib.Dec.{T, leb, ltb, eqb, leb→le, ltb→lt, lit≤}
 use lib.ListN.{length}
 use Rattle.lattice.specs.Lists.{at, sum, every, tabulate}
 use Rattle.lattice.specs.Space.{Allowed, Falls, Rises, Boxed, inBox, within, Submodular}
-use Rattle.lattice.proofs.ListLaws.{and-T, T-and, every-at, length-tabulate, at-tabulate}
+use Rattle.lattice.proofs.ListLaws.{is-true, and-T, T-and, every-at, length-tabulate, at-tabulate}
 use Rattle.lattice.proofs.Boxes.{inBox-iff}
 use Rattle.lattice.proofs.Sums.{rises-steps, falls-steps}
 use Rattle.net.specs.declared.Counts.{Counts}
@@ -27,6 +27,7 @@ use Rattle.net.specs.Checked.{Held, Checked, InRanges, Ordered, Limited}
 use Rattle.net.proofs.Dominance.{delay-submodular}
 use Rattle.net.proofs.Bound.{delay-fits}
 use Rattle.net.proofs.Charged.{load-charged}
+use Rattle.net.proofs.Records.{counts-held, counts-fill}
 
 -- where no question fails, the first passes and so do the rest
 pub firstNo-zero : (n : ℕ) (q : Bool) (qs : List Question) → firstNo (ask (suc n) q ∷ qs) ≡ 0 → T q × (firstNo qs ≡ 0)
@@ -79,26 +80,6 @@ passed b e =
 
 pub in-range : (l h v : ℕ) → T (inRange l h v) → (l ≤ v) × (v ≤ h)
 in-range l h v t = let a = and-T (leb l v) (leb v h) t in (leb→le l v (a .0), leb→le v h (a .1))
-
--- a record is of one kind
-one-kind : (k : ℕ) → cond (eqb k 1) 1 0 + cond (eqb k 2) 1 0 + cond (eqb k 3) 1 0 + cond (eqb k 4) 1 0 ≤ 1
-one-kind zero = lit≤ tt
-one-kind (suc zero) = lit≤ tt
-one-kind (suc (suc zero)) = lit≤ tt
-one-kind (suc (suc (suc zero))) = lit≤ tt
-one-kind (suc (suc (suc (suc zero)))) = lit≤ tt
-one-kind (suc (suc (suc (suc (suc k))))) =
-    rw (ne-eqb (suc (suc (suc (suc (suc k))))) 1 (λ e. omega arith), ne-eqb (suc (suc (suc (suc (suc k))))) 2 (λ e. omega arith), ne-eqb (suc (suc (suc (suc (suc k))))) 3 (λ e. omega arith), ne-eqb (suc (suc (suc (suc (suc k))))) 4 (λ e. omega arith))
-    (lit≤ tt)
-
-counts-small : (b : List ℕ) (n : ℕ) → count b 1 n + count b 2 n + count b 3 n + count b 4 n ≤ n
-unfolding count
-counts-small b zero = lit≤ tt
-counts-small b (suc n) = omega (arith, counts-small b n, one-kind (kind b n))
-
-pub counts-held : (b : List ℕ) → Held (countsOf b) b
-unfolding countsOf
-counts-held b = record { all = omega (arith, counts-small b (records b), div-add-mod' (length b) 16) }
 
 -- each question's facts
 module _ (c : Counts) (b : List ℕ) (a : Passed c b) where
@@ -318,6 +299,9 @@ module _ (b : List ℕ) (e : refusal b ≡ 0) where
 
   pub job-fits : (x : List ℕ) → Allowed (allowed (netOf b)) x → delay (netOf b) x < 2 ^ 63
   job-fits = checked-fits (checked b e)
+
+  pub job-filled : 16 * (countsOf b .widths + countsOf b .sizes + countsOf b .stages + countsOf b .segments) ≡ length b
+  job-filled = let a = passed b e in counts-fill b (is-true _ (a .one)) (is-true _ (a .two))
 
   pub job-charged : (x : List ℕ) → sum (netOf b .stages) (stageCharge (netOf b) x) ≡ loadFigure (netOf b) x
   job-charged = checked-charged (checked b e)

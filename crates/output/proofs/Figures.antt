@@ -141,12 +141,13 @@ module _ (job before : List ℕ) where
       rw (buffer-bounds job before e)
       (places-same false (places net) (figuresIn (boundsReply net ++ d)) (netFigures net) (bounds-agree job (replied-passes job (length before) (inr e) .0) d) (net .stages) (net .segments) (omega arith))
 
--- What an input of at most 65,536 bytes comes to, where `after` is what size has made of a buffer of 552 bytes, with the number n.
-pub record Sized (input before : List ℕ) (n : ℕ) (after : List ℕ) : Type 0 where
+-- What an input of at most 65,536 bytes comes to, where `after` is what size has made of a buffer of 552 bytes, with the number n and the counts c.
+pub record Sized (input before : List ℕ) (n : ℕ) (c : Counts) (after : List ℕ) : Type 0 where
   pub short : length input ≤ 65536
   pub long : length before ≡ 552
   pub number : n ≡ sizeNumber input (length before)
   pub buffer : after ≡ sizeBuffer input before
+  pub counted : refusal input ≡ 0 → c ≡ countsOf input
 
 -- No text, and the buffer as it was.
 pub nothing-put : {before after : List ℕ} → after ≡ before → Holds [] before after 0
@@ -166,11 +167,13 @@ module _ (input : List ℕ) (h : 65536 < length input) where
   unfolding told
   long-told = rw (lt-ltb 65536 (length input) h)
 
-pub sized : {input before after : List ℕ} {n : ℕ} → length input ≤ 65536 → length before ≡ 552 → n ≡ sizeNumber input (length before) → after ≡ sizeBuffer input before
-    → Sized input before n after
-sized h l e f = record { short = h; long = l; number = e; buffer = f }
+module _ {input before after : List ℕ} {n : ℕ} {c : Counts} where
+  -- from what the contract says
+  pub sized : length input ≤ 65536 → length before ≡ 552 → n ≡ sizeNumber input (length before) → after ≡ sizeBuffer input before
+      → (refusal input ≡ 0 → c ≡ countsOf input) → Sized input before n c after
+  sized h l e f g = record { short = h; long = l; number = e; buffer = f; counted = g }
 
-module _ {input before after : List ℕ} {n : ℕ} (s : Sized input before n after) where
+module _ {input before after : List ℕ} {n : ℕ} {c : Counts} (s : Sized input before n c after) where
   is-number : jobNumber input ≡ n
   is-number = sym (s .number ∙ ap (sizeNumber input) (s .long) ∙ number-in-552 input)
 
@@ -186,21 +189,24 @@ module _ {input before after : List ℕ} {n : ℕ} (s : Sized input before n aft
   unfolding told
   job-told = rw (le-ltb 65536 (length input) (s .short), is-number)
 
-module _ {input before after : List ℕ} {n : ℕ} (s : Sized input before n after) (c : Counts) (k : c ≡ countsOf input) where
+  -- where there is a reply, the counts are those of the job
+  counts-are : Replied n → c ≡ countsOf input
+  counts-are r = s .counted (replied-passes input (length before) (rw (s .number) at r) .0)
+
   pub few : Replied n → c .stages + c .segments ≤ 68
-  few r = rw k (few-places input (replied-passes input (length before) (rw (s .number) at r) .0))
+  few r = rw (counts-are r) (few-places input (replied-passes input (length before) (rw (s .number) at r) .0))
 
   -- with the number 0
   module _ (e : n ≡ 0) where
     pub answer-printed : answerTextIn after c ≡ printed input
     unfolding jobText
-    answer-printed = rw (k, job-printed s, e, s .buffer) (answer-lines input before (sym (s .number) ∙ e))
+    answer-printed = rw (counts-are (inl e), job-printed, e, s .buffer) (answer-lines input before (sym (s .number) ∙ e))
 
     pub answer-reply : (m : ℕ) → m ≡ 8 * suc (c .stages + c .segments) → Holds (replied input) before after m
     unfolding replyOf
     answer-reply m f =
-        let l : m ≡ replyLength (netOf input) = rw k at f in
-        rw (job-replied s, e, l)
+        let l : m ≡ replyLength (netOf input) = rw (counts-are (inl e)) at f in
+        rw (job-replied, e, l)
         record {
           long = sym (finished-long (netOf input));
           fits = replied-passes input (length before) (inl (sym (s .number) ∙ e)) .1;
@@ -208,37 +214,37 @@ module _ {input before after : List ℕ} {n : ℕ} (s : Sized input before n aft
         }
 
     pub answer-told : [] ≡ told input
-    answer-told = rw (job-told s, e)
+    answer-told = rw (job-told, e)
 
   -- with the number 14
   module _ (e : n ≡ 14) where
     pub bounds-printed : refusedLine n ++ placeLinesIn after false c ≡ printed input
     unfolding jobText
-    bounds-printed = rw (k, job-printed s, e, s .buffer, bounds-lines input before (sym (s .number) ∙ e))
+    bounds-printed = rw (counts-are (inr e), job-printed, e, s .buffer, bounds-lines input before (sym (s .number) ∙ e))
 
     pub bounds-reply : (m : ℕ) → m ≡ 8 * suc (c .stages + c .segments) → Holds (replied input) before after m
     unfolding replyOf
     bounds-reply m f =
-        let l : m ≡ replyLength (netOf input) = rw k at f in
-        rw (job-replied s, e, l)
+        let l : m ≡ replyLength (netOf input) = rw (counts-are (inr e)) at f in
+        rw (job-replied, e, l)
         record {
           long = sym (bounds-long (netOf input));
           fits = replied-passes input (length before) (inr (sym (s .number) ∙ e)) .1;
           buffer = s .buffer ∙ buffer-bounds input before (sym (s .number) ∙ e);
         }
 
--- with every number but 0
-module _ {input before after : List ℕ} {n : ℕ} (s : Sized input before n after) (z : n ≢ 0) where
-  pub refused-told : refusedLine n ≡ told input
-  refused-told = rw (job-told s, ne-eqb n 0 z)
+  -- with every number but 0
+  module _ (z : n ≢ 0) where
+    pub refused-told : refusedLine n ≡ told input
+    refused-told = rw (job-told, ne-eqb n 0 z)
 
-  module _ (f : n ≢ 14) where
-    pub refused-printed : refusedLine n ≡ printed input
-    unfolding jobText
-    refused-printed = rw (job-printed s, ne-eqb n 0 z, ne-eqb n 14 f) (sym (append-nil (refusedLine n)))
+    module _ (f : n ≢ 14) where
+      pub refused-printed : refusedLine n ≡ printed input
+      unfolding jobText
+      refused-printed = rw (job-printed, ne-eqb n 0 z, ne-eqb n 14 f) (sym (append-nil (refusedLine n)))
 
-    pub refused-reply : Holds (replied input) before after 0
-    unfolding replyOf
-    refused-reply =
-        rw (job-replied s, ne-eqb n 0 z, ne-eqb n 14 f)
-        (nothing-put (s .buffer ∙ buffer-refused input before (λ k. z (s .number ∙ k)) (λ k. f (s .number ∙ k))))
+      pub refused-reply : Holds (replied input) before after 0
+      unfolding replyOf
+      refused-reply =
+          rw (job-replied, ne-eqb n 0 z, ne-eqb n 14 f)
+          (nothing-put (s .buffer ∙ buffer-refused input before (λ k. z (s .number ∙ k)) (λ k. f (s .number ∙ k))))

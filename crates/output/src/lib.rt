@@ -156,13 +156,14 @@ pub fn print(input: &[u8], out: &mut [u8; 8192]) -> usize
         return text::put_bytes(out, 0, b"too long\n");
     }
     let mut reply = [0u8; 552];
-    let number = size::size(input, &mut reply);
-    if number == 0 {
-        return put_answer(out, &reply, questions::counts(input));
+    let sized = size::size_and_counts(input, &mut reply);
+    let counts = sized.counts;
+    if sized.number == 0 {
+        return put_answer(out, &reply, counts);
     }
-    let next = put_refusal(out, number);
-    if number == 14 {
-        return put_places(out, next, &reply, false, questions::counts(input));
+    let next = put_refusal(out, sized.number);
+    if sized.number == 14 {
+        return put_places(out, next, &reply, false, counts);
     }
     next
 }
@@ -187,17 +188,18 @@ pub fn reply(input: &[u8], out: &mut [u8; 552], line: &mut [u8; 32]) -> Lengths
             line: text::put_bytes(line, 0, b"too long\n"),
         };
     }
-    let number = size::size(input, out);
-    if number == 0 {
+    let sized = size::size_and_counts(input, out);
+    let counts = sized.counts;
+    if sized.number == 0 {
         return Lengths {
-            reply: reply_length(questions::counts(input)),
+            reply: reply_length(counts),
             line: 0,
         };
     }
-    let told = put_refusal(line, number);
-    if number == 14 {
+    let told = put_refusal(line, sized.number);
+    if sized.number == 14 {
         return Lengths {
-            reply: reply_length(questions::counts(input)),
+            reply: reply_length(counts),
             line: told,
         };
     }

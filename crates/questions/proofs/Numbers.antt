@@ -1,12 +1,11 @@
 -- The number of the first question that fails, found by asking one question after another.
-use mathlib.Core.Path.{_≡_, _∙_, refl, sym}
+use mathlib.Core.Path.{_≡_, _∙_, refl, sym, ap}
 use mathlib.Core.Bool.{Bool, true, false, not, cond}
 use mathlib.Core.List.{List, [], _∷_, _++_}
-use Prim.Native.Nat.{ℕ, zero, suc, _≤_, _%_}
-use native.Mathlib.Nat.{div-add-mod'}
+use Prim.Native.Nat.{ℕ, zero, suc, _*_, _%_, _≤_}
 use native.Mathlib.Omega.{arith}
 use borrow.Author.Tests.{not-true, not-false}
-use lib.Dec.{T, leb, ltb, eqb, leb→le, ltb→lt, eqb→eq}
+use lib.Dec.{T, leb, ltb, eqb, leb→le, ltb→lt}
 use lib.ListN.{length}
 use Rattle.lattice.proofs.ListLaws.{and-T, every-at}
 use Rattle.net.specs.declared.Counts.{Counts}
@@ -14,7 +13,8 @@ use Rattle.net.specs.Job.{records, countsOf, segmentParent}
 use Rattle.net.specs.Net.{netBy}
 use Rattle.net.specs.Questions.{inRange, question1, question2, question3, question4, question5, question6, question7, question8, question9, question10, question11, Question, ask, firstNo, jobQuestions, refusal}
 use Rattle.net.specs.Checked.{Held}
-use Rattle.net.proofs.Questions.{in-range, counts-held, checked}
+use Rattle.net.proofs.Records.{records-fill, counts-held}
+use Rattle.net.proofs.Questions.{in-range, checked}
 use Rattle.links.specs.Links.{Parents, Linked}
 use Rattle.questions.specs.declared.Outcome.{Outcome}
 use Rattle.runs.specs.Records.{countsTo}
@@ -52,12 +52,16 @@ some-counted {c} {b} {r} h e t =
 pub some-record : (b : List ℕ) {r : Bool} → r ≡ question1 b → not r ≡ false → 1 ≤ records b
 unfolding question1
 some-record b {r} e t =
-    let a = and-T (ltb 0 (length b)) (eqb (_%_ (length b) 16) 0) (rw (sym e ∙ not-false r t) tt) in
-    omega (arith, ltb→lt 0 (length b) (a .0), eqb→eq (_%_ (length b) 16) 0 (a .1), div-add-mod' (length b) 16)
+    let y : question1 b ≡ true = sym e ∙ not-false r t in
+    let a = and-T (ltb 0 (length b)) (eqb (_%_ (length b) 16) 0) (rw y tt) in
+    omega (arith, ltb→lt 0 (length b) (a .0), records-fill b y)
 
--- The records that are counted are there.
-pub counted-held : (b : List ℕ) {c : Counts} → c ≡ countsTo b (records b) → Held c b
+-- All n records are counted by kind, and they are there.
+pub counted-all : (b : List ℕ) (n : ℕ) {c : Counts} → n ≡ records b → c ≡ countsTo b n → c ≡ countsOf b
 unfolding countsOf
+counted-all b n e f = f ∙ ap (countsTo b) e
+
+pub counted-held : (b : List ℕ) {c : Counts} → c ≡ countsOf b → Held c b
 counted-held b e = rw e (counts-held b)
 
 -- A number that is found among some questions is that of all.
@@ -84,19 +88,19 @@ last : (q : Bool) → cond q 0 11 ≡ firstNo (ask 11 q ∷ [])
 unfolding firstNo
 last q = refl
 
-refused : (b : List ℕ) (r : Outcome) (n : ℕ) → r .number ≡ suc n → suc n ≡ refusal b → Asked b r
-refused b r n e f = record { fails = λ h. e ∙ f; passes = λ z. absurd (omega (arith, e, z)) }
+refused : (b : List ℕ) (r : Outcome) (n : ℕ) → r .records ≡ records b → r .number ≡ suc n → suc n ≡ refusal b → Asked b r
+refused b r n g e f = record { records = g; fails = λ h. e ∙ f; passes = λ z. absurd (omega (arith, e, z)) }
 
 -- p and q are the answers to questions 1 and 2
 module _ (b : List ℕ) {p : Bool} (one : p ≡ question1 b) where
-  pub refused-1 : (r : Outcome) → r .number ≡ 1 → not p ≡ true → Asked b r
+  pub refused-1 : (r : Outcome) → (r .number ≡ 1) × (r .records ≡ records b) → not p ≡ true → Asked b r
   unfolding refusal jobQuestions
-  refused-1 r e t = refused b r 0 e (no _ _ one t)
+  refused-1 r e t = refused b r 0 (e .1) (e .0) (no _ _ one t)
 
   module _ {q : Bool} (t : not p ≡ false) (two : q ≡ question2 b) where
-    pub refused-2 : (r : Outcome) → r .number ≡ 2 → not q ≡ true → Asked b r
+    pub refused-2 : (r : Outcome) → (r .number ≡ 2) × (r .records ≡ records b) → not q ≡ true → Asked b r
     unfolding refusal jobQuestions
-    refused-2 r e u = refused b r 1 e (yes _ _ one t (no _ _ two u))
+    refused-2 r e u = refused b r 1 (e .1) (e .0) (yes _ _ one t (no _ _ two u))
 
     module _ (u : not q ≡ false) where
       abbrev c : Counts
@@ -126,23 +130,26 @@ module _ (b : List ℕ) {p : Bool} (one : p ≡ question1 b) where
       later zero e h = absurd (h refl)
       later (suc n) e h = yes _ _ one t (yes _ _ two u (found (questionsFrom3 c b) (ask 11 (question11 c b) ∷ []) n e))
 
-      pub asked-from-3 : (d : Counts) (n : ℕ) → d ≡ countsTo b (records b) → n ≡ firstNo (questionsFrom3 d b) → Asked b (record { number = n; counts = d })
-      unfolding countsOf
-      asked-from-3 d n e f = rw e record { fails = later n (rw e at f); passes = λ z. linkable (sym (rw e at f) ∙ z) }
+      pub asked-from-3 : (d : Counts) (n m : ℕ) → m ≡ records b → d ≡ countsOf b → n ≡ firstNo (questionsFrom3 d b) → Asked b (record { number = n; records = m; counts = d })
+      asked-from-3 d n m g e f = rw e record { records = g; fails = later n (rw e at f); passes = λ z. linkable (sym (rw e at f) ∙ z) }
+
+-- Where question 1 passes, the records that were counted fill the job.
+filled : {b : List ℕ} {r : Outcome} → Asked b r → question1 b ≡ true → 16 * r .records ≡ length b
+filled {b} {r} a e = omega (arith, a .records, records-fill b e)
 
 -- What `check` says, by how it ends.
 module _ {b : List ℕ} {r : Outcome} (a : Asked b r) {first next : List ℕ} where
   pub check-early : (r .number ≡ 0 → ⊥) → CheckOf b r first next
-  check-early h = record { number = a .fails h; passed = λ e. absurd (h e); linked = λ e. absurd (h e) }
+  check-early h = record { number = a .fails h; records = a .records; filled = filled a; passed = λ e. absurd (h e); linked = λ e. absurd (h e) }
 
   module _ (z : r .number ≡ 0) {p : Bool} (e : p ≡ question11 (r .counts) b) where
-    pub check-eleven : not p ≡ true → CheckOf b (record { number = 11; counts = r .counts }) first next
+    pub check-eleven : not p ≡ true → CheckOf b (record { number = 11; records = r .records; counts = r .counts }) first next
     check-eleven t =
         let f : question11 (r .counts) b ≡ false = sym e ∙ not-true p t in
-        record { number = rw f at (a .passes z .decides); passed = λ n. absurd (omega (arith, n)); linked = λ n. absurd (omega (arith, n)) }
+        record { number = rw f at (a .passes z .decides); records = a .records; filled = filled a; passed = λ n. absurd (omega (arith, n)); linked = λ n. absurd (omega (arith, n)) }
 
     pub check-passed : not p ≡ false → Linked (netBy (r .counts) b) first next → CheckOf b r first next
     check-passed t l =
         let f : question11 (r .counts) b ≡ true = sym e ∙ not-false p t in
         let d = rw f at (a .passes z .decides) in
-        record { number = z ∙ d; passed = λ n. rw (a .passes z .counted) (checked b (sym d)); linked = λ n. l }
+        record { number = z ∙ d; records = a .records; filled = filled a; passed = λ n. rw (a .passes z .counted) (checked b (sym d)); linked = λ n. l }

@@ -1,17 +1,19 @@
 -- The tests that the code asks of one run after another, put together to the questions as they are defined.
-use mathlib.Core.Path.{_≡_, _∙_, sym, ap₂}
+use mathlib.Core.Path.{_≡_, _∙_, sym, ap, ap₂}
 use mathlib.Core.Bool.{Bool, true, _&&_}
 use mathlib.Core.List.{List}
-use Prim.Native.Nat.{ℕ, suc, _+_, _*_, _-_, _≤_}
-use native.Mathlib.Nat.{zero-add, add-zero, add-assoc}
+use Prim.Native.Nat.{ℕ, suc, _+_, _*_, _-_, _%_, _≤_}
+use native.Mathlib.Nat.{zero-add, add-zero, add-assoc, div-add-mod'}
+use native.Mathlib.Decide.{ℕ-discrete}
 use native.Mathlib.Numerals.{add-one, one-add}
 use native.Mathlib.Omega.{arith}
-use borrow.Author.Tests.{le-leb}
-use lib.Dec.{eqb, leb·zero}
+use borrow.Author.Tests.{le-leb, eq-eqb, ne-eqb}
+use lib.Dec.{ltb, eqb, leb·zero}
+use lib.ListN.{length}
 use Rattle.lattice.specs.Lists.{every}
 use Rattle.net.specs.declared.Counts.{Counts}
 use Rattle.net.specs.Job.{byte, records, segmentAt}
-use Rattle.net.specs.Questions.{inRange, question2, question4, zeros, sinkOrZero, question5, question6, question7, question8, question9, question10}
+use Rattle.net.specs.Questions.{inRange, question1, question2, question4, zeros, sinkOrZero, question5, question6, question7, question8, question9, question10}
 use Rattle.runs.specs.Records.{byteOf, kindInOrder, numberInOrder, zeroBytes, byteWithin, wordWithin, wordBelow, rangeWithin, parentInOrder, sinkOrNone}
 use Rattle.questions.proofs.Zeros.{zero-word, zero-words}
 use Rattle.lattice.proofs.Every.{every-and, every-same}
@@ -24,6 +26,15 @@ two : (n : ℕ) (f g : ℕ → Bool) {p q : Bool} → p ≡ every n f → q ≡ 
 two n f g e h = both e h ∙ sym (every-and n f g)
 
 module _ (b : List ℕ) where
+  -- the length is sixteen times the count of whole records exactly where nothing is left over
+  pub question1-by : (n : ℕ) → n ≡ records b → ltb 0 (length b) && eqb (16 * n) (length b) ≡ question1 b
+  unfolding question1
+  question1-by n e = ap (λ t. ltb 0 (length b) && t) (go (ℕ-discrete (_%_ (length b) 16) 0))
+    where
+      go : Dec (_%_ (length b) 16 ≡ 0) → eqb (16 * n) (length b) ≡ eqb (_%_ (length b) 16) 0
+      go (yes z) = rw (eq-eqb (16 * n) (length b) (omega (arith, div-add-mod' (length b) 16)), eq-eqb (_%_ (length b) 16) 0 z)
+      go (no z) = rw (ne-eqb (16 * n) (length b) (λ f. z (omega (arith, div-add-mod' (length b) 16))), ne-eqb (_%_ (length b) 16) 0 z)
+
   pub question2-by : (n : ℕ) {p q : Bool} → n ≡ records b → p ≡ every n (byteWithin b 0 0 1 4) → q ≡ every (n - 1) (kindInOrder b) → p && q ≡ question2 b
   unfolding question2
   question2-by n m e f = both (rw m at e ∙ every-same _ _ _ (λ k h. rw (add-zero (16 * (0 + k)), zero-add k))) (rw m at f ∙ every-same _ _ _ (λ k h. rw (add-one k)))

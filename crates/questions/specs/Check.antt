@@ -1,20 +1,23 @@
 -- What the contracts of `check` and of its parts say.
 use mathlib.Core.Path.{_≡_}
-use mathlib.Core.Bool.{cond}
+use mathlib.Core.Bool.{true, cond}
 use mathlib.Core.List.{List, [], _∷_}
-use Prim.Native.Nat.{ℕ, _≤_, _<_}
+use Prim.Native.Nat.{ℕ, _*_, _≤_, _<_}
 use lib.ListN.{length, getD}
 use Rattle.net.specs.declared.Counts.{Counts}
-use Rattle.net.specs.Job.{countsOf}
+use Rattle.net.specs.Job.{records, countsOf}
 use Rattle.net.specs.Net.{Net, netBy}
-use Rattle.net.specs.Questions.{question3, question4, question5, question6, question7, question8, question9, question10, question11, Question, ask, refusal}
+use Rattle.net.specs.Questions.{question1, question3, question4, question5, question6, question7, question8, question9, question10, question11, Question, ask, refusal}
 use Rattle.net.specs.Checked.{Held, Checked}
 use Rattle.links.specs.Links.{Parents, First, Linked}
 use Rattle.questions.specs.declared.Outcome.{Outcome}
 
--- The number is that of the first question that the job fails; where it is 0 the job has the facts of `Checked`, and its segments are linked.
+-- The number is that of the first question that the job fails, and sixteen times the count of records is the length wherever question 1 passes;
+-- where the number is 0 the job has the facts of `Checked`, and its segments are linked.
 pub record CheckOf (job : List ℕ) (r : Outcome) (first next : List ℕ) : Type 0 where
   pub number : r .number ≡ refusal job
+  pub records : r .records ≡ records job
+  pub filled : question1 job ≡ true → 16 * r .records ≡ length job
   pub passed : r .number ≡ 0 → Checked (r .counts) job
   pub linked : r .number ≡ 0 → Linked (netBy (r .counts) job) first next
 
@@ -26,8 +29,9 @@ pub record Linkable (c : Counts) (b : List ℕ) : Type 0 where
   pub parents : Parents (netBy c b)
   pub decides : cond (question11 c b) 0 11 ≡ refusal b
 
--- The number is that of the first question that the job fails, or 0 where it passes 1 to 10.
+-- The number is that of the first question that the job fails, or 0 where it passes 1 to 10, and its records are counted.
 pub record Asked (job : List ℕ) (r : Outcome) : Type 0 where
+  pub records : r .records ≡ records job
   pub fails : (r .number ≡ 0 → ⊥) → r .number ≡ refusal job
   pub passes : r .number ≡ 0 → Linkable (r .counts) job
 

@@ -4,30 +4,26 @@ use net::Counts;
 ghost use mathlib.Core.Path.{_≡_};
 ghost use Prim.Native.Nat.{_<_, _≤_};
 ghost use lib.ListN.{length};
-ghost use Rattle.net.specs.Job.{records, countsOf};
+ghost use Rattle.net.specs.Job.{records};
 ghost use Rattle.net.specs.Net.{netBy};
 ghost use Rattle.net.specs.Questions.{question1, question2, question3, question4, question5, question6, question7, question8, question9, question10, question11, firstNo};
 ghost use Rattle.net.specs.Checked.{Held};
 ghost use Rattle.questions.specs.Check.{CheckOf, Asked, questionsFrom7, questionsFrom3, Counted, Firsts};
 
-// The number of the first question that a job fails, 0 where it passes all; and then the counts of its records.
+// The number of the first question that a job fails, 0 where it passes all; the count of its records; and, where it passes all, their counts by
+// kind.
 pub struct Outcome {
     pub number: usize,
+    pub records: usize,
     pub counts: Counts,
 }
 
-// The counts of a job's records by kind, whatever the job.
-pub fn counts(job: &[u8]) -> Counts
-    ensures { λ r. ⌜ r ≡ countsOf (now (job .entry)) ⌝ }
-{
-    runs::count_any(job, job.len() / 16)
-}
-
-// Question 1: is the length above 0 and a multiple of 16?
-fn question1(job: &[u8]) -> bool
+// Question 1, of n whole records: is the length above 0 and a multiple of 16?
+fn question1(job: &[u8], n: usize) -> bool
+    requires { ⌜ n ≡ records (now job) ⌝ }
     ensures { λ r. ⌜ r ≡ question1 (now (job .entry)) ⌝ }
 {
-    (0 < job.len()) & (job.len() % 16 == 0)
+    (0 < job.len()) & (16 * n == job.len())
 }
 
 // Question 2, of n records: is every kind 1 to 4, never falling?
@@ -198,12 +194,13 @@ fn questions_from_3(job: &[u8], counts: Counts) -> usize
     questions_from_7(job, counts)
 }
 
-// A job that fails a question before its records are counted.
-fn uncounted(number: usize) -> Outcome
-    ensures { λ r. ⌜ r .number ≡ number ⌝ }
+// A job of n records that fails a question before they are counted by kind.
+fn uncounted(number: usize, n: usize) -> Outcome
+    ensures { λ r. ⌜ (r .number ≡ number) × (r .records ≡ n) ⌝ }
 {
     Outcome {
         number: number,
+        records: n,
         counts: Counts {
             widths: 0,
             sizes: 0,
@@ -213,26 +210,29 @@ fn uncounted(number: usize) -> Outcome
     }
 }
 
-// The number of the first of questions 1 to 10 that a job fails, 0 where it passes them; and then the counts of its records.
+// The number of the first of questions 1 to 10 that a job fails, 0 where it passes them; and the counts of its records. The length is divided
+// here and nowhere else.
 fn questions_from_1(job: &[u8]) -> Outcome
     ensures { λ r. ⌜ Asked (now (job .entry)) r ⌝ }
 {
-    let n = job.len() / 16;
-    if !question1(job) {
-        return uncounted(1);
+    let records = job.len() / 16;
+    if !question1(job, records) {
+        return uncounted(1, records);
     }
-    if !question2(job, n) {
-        return uncounted(2);
+    if !question2(job, records) {
+        return uncounted(2, records);
     }
-    let counts = runs::count(job, n);
+    let counts = runs::count(job, records);
     let number = questions_from_3(job, counts);
     Outcome {
         number: number,
+        records: records,
         counts: counts,
     }
 }
 
-// The number of the first question that a job fails, 0 where it passes all; and then the counts of its records, and its segments are linked.
+// The number of the first question that a job fails, 0 where it passes all; the count of its records; and, where it passes all, their counts by
+// kind, and its segments are linked.
 pub fn check(job: &[u8], first: &mut [usize], next: &mut [usize]) -> Outcome
     requires { ⌜ (64 < length (now first)) × (64 ≤ length (now next)) ⌝ }
     ensures { λ r. ⌜ CheckOf (now (job .entry)) r (now (first .exit)) (now (next .exit)) ⌝ }
@@ -246,6 +246,7 @@ pub fn check(job: &[u8], first: &mut [usize], next: &mut [usize]) -> Outcome
     if !question11(job, counts, first) {
         return Outcome {
             number: 11,
+            records: outcome.records,
             counts: counts,
         };
     }

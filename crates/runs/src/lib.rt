@@ -2,9 +2,7 @@
 // its loop.
 use net::Counts;
 ghost use mathlib.Core.Path.{_≡_};
-ghost use mathlib.Core.Bool.{cond};
 ghost use Prim.Native.Nat.{_+_, _*_, _<_, _≤_};
-ghost use lib.Dec.{eqb};
 ghost use lib.ListN.{length};
 ghost use Rattle.lattice.specs.Lists.{every};
 ghost use Rattle.runs.specs.Kinds.{Kinds, UpTo, Ends};
@@ -208,37 +206,6 @@ pub fn sinks_or_branches(job: &[u8], first: &[usize], start: usize, count: usize
         }
     }
     true
-}
-
-// 1 where a record is of a kind, else 0.
-fn one_if(kind: usize, of: usize) -> usize
-    ensures { λ r. ⌜ (r ≡ cond (eqb kind of) 1 0) × (r ≤ 1) ⌝ }
-{
-    (kind == of) as usize
-}
-
-// How many of the first n records are of each kind, in whatever order they stand.
-pub fn count_any(job: &[u8], n: usize) -> Counts
-    requires { ⌜ 16 * n ≤ length (now job) ⌝ }
-    ensures { λ r. ⌜ r ≡ countsTo (now (job .entry)) n ⌝ }
-{
-    let mut widths = 0;
-    let mut sizes = 0;
-    let mut stages = 0;
-    let mut segments = 0;
-    for k in 0..n {
-        let kind = job::index_at(job, 16 * k);
-        widths += one_if(kind, 1);
-        sizes += one_if(kind, 2);
-        stages += one_if(kind, 3);
-        segments += one_if(kind, 4);
-    }
-    Counts {
-        widths: widths,
-        sizes: sizes,
-        stages: stages,
-        segments: segments,
-    }
 }
 
 // The first of n records whose kind is above `kind`, or n. The records before `from` are known to be of kinds up to it.

@@ -1,18 +1,28 @@
 // size: the least scaled delay of a job, its bounds, and the least-delay sizings' envelopes, written as a reply.
 use lattice::Side;
 use net::Counts;
+use questions::Outcome;
 ghost use mathlib.Core.Path.{_≡_};
 ghost use Prim.Native.Nat.{suc, _*_, _≤_};
 ghost use lib.ListN.{length};
-ghost use Rattle.net.specs.Job.{placesBy};
+ghost use Rattle.net.specs.Job.{placesBy, countsOf};
 ghost use Rattle.net.specs.Net.{netBy};
 ghost use Rattle.net.specs.Checked.{Checked, ForPlaces};
+ghost use Rattle.net.specs.Questions.{refusal};
 ghost use Rattle.net.specs.Answers.{sizeNumber, sizeBuffer};
 ghost use Rattle.net.specs.Promises.{Promises};
+ghost use Rattle.questions.specs.Check.{CheckOf};
 ghost use Rattle.links.specs.Links.{LinkedBy};
 ghost use Rattle.place.specs.ByCounts.{Weighed};
 ghost use Rattle.finish.specs.Parts.{BoundedBy, bufferBy};
 ghost use Rattle.size.specs.Numbers.{roomNumber};
+
+// What comes of sizing a job: the number of the first question that fails, 0 where none does; and, where the job passes 1 to 11, the counts of
+// its records.
+pub struct NumberAndCounts {
+    pub number: usize,
+    pub counts: Counts,
+}
 
 // Question 14, and the reply.
 fn answer(
@@ -63,15 +73,19 @@ fn bound_and_answer(
     answer(job, counts, &weights, lower, upper, reply)
 }
 
-// Writes the reply of a job into the buffer, for the numbers 0 and 14; every other number leaves the buffer as it was.
-pub fn size(job: &[u8], reply: &mut [u8]) -> usize
+// What follows the check: the questions that need a buffer or bounds, and the reply.
+fn answer_checked(
+    job: &[u8],
+    checked: Outcome,
+    first: &[usize],
+    next: &[usize],
+    reply: &mut [u8],
+) -> usize
+    requires { ⌜ CheckOf (now job) checked (now first) (now next) ⌝ }
     ensures number { λ r. ⌜ r ≡ sizeNumber (now (job .entry)) (length (now (reply .entry))) ⌝ }
     ensures buffer { λ r. ⌜ now (reply .exit) ≡ sizeBuffer (now (job .entry)) (now (reply .entry)) ⌝ }
     ensures promises { λ r. ⌜ Promises (now (job .entry)) (now (reply .entry)) r (now (reply .exit)) ⌝ }
 {
-    let mut first = [0usize; 65];
-    let mut next = [0usize; 64];
-    let checked = questions::check(job, &mut first, &mut next);
     if checked.number != 0 {
         return checked.number;
     }
@@ -85,10 +99,38 @@ pub fn size(job: &[u8], reply: &mut [u8]) -> usize
     bound_and_answer(
         job,
         counts,
-        &first,
-        &next,
+        first,
+        next,
         &mut lower[..places],
         &mut upper[..places],
         reply,
     )
+}
+
+// The number of size, and the counts that the check found. The reply of a job is written into the buffer for the numbers 0 and 14; every other
+// number leaves the buffer as it was.
+pub fn size_and_counts(job: &[u8], reply: &mut [u8]) -> NumberAndCounts
+    ensures number { λ r. ⌜ r .number ≡ sizeNumber (now (job .entry)) (length (now (reply .entry))) ⌝ }
+    ensures buffer { λ r. ⌜ now (reply .exit) ≡ sizeBuffer (now (job .entry)) (now (reply .entry)) ⌝ }
+    ensures promises { λ r. ⌜ Promises (now (job .entry)) (now (reply .entry)) (r .number) (now (reply .exit)) ⌝ }
+    ensures counts { λ r. ⌜ (refusal (now (job .entry)) ≡ 0 → r .counts ≡ countsOf (now (job .entry))) ⌝ }
+{
+    let mut first = [0usize; 65];
+    let mut next = [0usize; 64];
+    let checked = questions::check(job, &mut first, &mut next);
+    let counts = checked.counts;
+    let number = answer_checked(job, checked, &first, &next, reply);
+    NumberAndCounts {
+        number: number,
+        counts: counts,
+    }
+}
+
+// Writes the reply of a job into the buffer, for the numbers 0 and 14; every other number leaves the buffer as it was.
+pub fn size(job: &[u8], reply: &mut [u8]) -> usize
+    ensures number { λ r. ⌜ r ≡ sizeNumber (now (job .entry)) (length (now (reply .entry))) ⌝ }
+    ensures buffer { λ r. ⌜ now (reply .exit) ≡ sizeBuffer (now (job .entry)) (now (reply .entry)) ⌝ }
+    ensures promises { λ r. ⌜ Promises (now (job .entry)) (now (reply .entry)) r (now (reply .exit)) ⌝ }
+{
+    size_and_counts(job, reply).number
 }

@@ -20,48 +20,47 @@ returns c =
     let h = wrote-holds (c .put-bytes .ensures) (search needs) in
     (rw (← long-printed (c .before .before .before .before .before .args .input .now) (c .before .before .before .if1 .taken)) h, held h)
 
-slice-aggregate-size : tie.Need-slice-aggregate-size
-slice-aggregate-size c = search needs
+slice-aggregate-size-and-counts : tie.Need-slice-aggregate-size-and-counts
+slice-aggregate-size-and-counts c = search needs
 
-size-requires : tie.Need-size-requires
-size-requires c κs = search needs
-
-counts-requires : tie.Need-counts-requires
-counts-requires c κs = search needs
+size-and-counts-requires : tie.Need-size-and-counts-requires
+size-and-counts-requires c κs = search needs
 
 put-answer-requires : tie.Need-put-answer-requires
 put-answer-requires c κs =
-    let s = sized {before = replicate 552 0} {after = c .before .before .before .before .before .size .last .1 .0} (c .before .before .before .before .before .before .before .if1 .left) refl (c .before .before .before .before .before .size .ensures .0) (c .before .before .before .before .before .size .ensures .1 .0) in
-    few s _ (c .counts .ensures) (inl (c .before .before .before .if2 .taken))
+    let z = c .before .before .before .before .before .before .size-and-counts in
+    let s = sized {before = replicate 552 0} {after = z .last .1 .0} (c .before .before .before .before .before .before .before .before .if1 .left) refl (z .ensures .0) (z .ensures .1 .0) (z .ensures .1 .1 .1) in
+    few s (inl (c .before .before .if2 .taken))
 
 returns-2 : tie.Need-returns-2
 returns-2 c =
-    let s = sized {before = replicate 552 0} {after = c .before .before .before .before .before .before .size .last .1 .0} (c .before .before .before .before .before .before .before .before .if1 .left) refl (c .before .before .before .before .before .before .size .ensures .0) (c .before .before .before .before .before .before .size .ensures .1 .0) in
+    let z = c .before .before .before .before .before .before .before .size-and-counts in
+    let s = sized {before = replicate 552 0} {after = z .last .1 .0} (c .before .before .before .before .before .before .before .before .before .if1 .left) refl (z .ensures .0) (z .ensures .1 .0) (z .ensures .1 .1 .1) in
     let h = wrote-holds (c .put-answer .ensures .0) (search needs) in
-    (rw (← answer-printed s _ (c .before .counts .ensures) (c .before .before .before .before .if2 .taken)) h, held h)
+    (rw (← answer-printed s (c .before .before .before .if2 .taken)) h, held h)
 
 put-refusal-requires : tie.Need-put-refusal-requires
 put-refusal-requires c κs = search needs
 
-counts-requires-2 : tie.Need-counts-requires-2
-counts-requires-2 c κs = search needs
-
 put-places-requires : tie.Need-put-places-requires
 put-places-requires c κs =
-    let s = sized {before = replicate 552 0} {after = c .before .before .before .before .before .before .before .before .size .last .1 .0} (c .before .before .before .before .before .before .before .before .before .before .if1 .left) refl (c .before .before .before .before .before .before .before .before .size .ensures .0) (c .before .before .before .before .before .before .before .before .size .ensures .1 .0) in
-    (search needs, few s _ (c .counts2 .ensures) (inr (c .before .before .before .if3 .taken)))
+    let z = c .before .before .before .before .before .before .before .before .before .before .size-and-counts in
+    let s = sized {before = replicate 552 0} {after = z .last .1 .0} (c .before .before .before .before .before .before .before .before .before .before .before .before .if1 .left) refl (z .ensures .0) (z .ensures .1 .0) (z .ensures .1 .1 .1) in
+    (search needs, few s (inr (c .before .before .if3 .taken)))
 
 returns-3 : tie.Need-returns-3
 returns-3 c =
-    let s = sized {before = replicate 552 0} {after = c .before .before .before .before .before .before .before .before .before .size .last .1 .0} (c .before .before .before .before .before .before .before .before .before .before .before .if1 .left) refl (c .before .before .before .before .before .before .before .before .before .size .ensures .0) (c .before .before .before .before .before .before .before .before .before .size .ensures .1 .0) in
+    let z = c .before .before .before .before .before .before .before .before .before .before .before .size-and-counts in
+    let s = sized {before = replicate 552 0} {after = z .last .1 .0} (c .before .before .before .before .before .before .before .before .before .before .before .before .before .if1 .left) refl (z .ensures .0) (z .ensures .1 .0) (z .ensures .1 .1 .1) in
     let h = wrote-holds (wrote-then (c .before .before .before .before .before .put-refusal .ensures .0) (c .put-places .ensures .0)) (search needs) in
-    (rw (← bounds-printed s _ (c .before .counts2 .ensures) (c .before .before .before .before .if3 .taken)) h, held h)
+    (rw (← bounds-printed s (c .before .before .before .if3 .taken)) h, held h)
 
 returns-4 : tie.Need-returns-4
 returns-4 c =
-    let s = sized {before = replicate 552 0} {after = c .before .before .before .before .before .size .last .1 .0} (c .before .before .before .before .before .before .before .if1 .left) refl (c .before .before .before .before .before .size .ensures .0) (c .before .before .before .before .before .size .ensures .1 .0) in
-    let h = wrote-holds (c .before .put-refusal .ensures .0) (search needs) in
-    (rw (← refused-printed s (c .before .before .before .if2 .left) (c .if3 .left)) h, held h)
+    let z = c .before .before .before .before .before .before .before .before .size-and-counts in
+    let s = sized {before = replicate 552 0} {after = z .last .1 .0} (c .before .before .before .before .before .before .before .before .before .before .if1 .left) refl (z .ensures .0) (z .ensures .1 .0) (z .ensures .1 .1 .1) in
+    let h = wrote-holds (c .before .before .put-refusal .ensures .0) (search needs) in
+    (rw (← refused-printed s (c .before .before .before .before .if2 .left) (c .if3 .left)) h, held h)
 
 pub print-spec : {M : Type 1} → statement M
 print-spec =
@@ -70,13 +69,11 @@ print-spec =
     slice-aggregate-put-bytes
     put-bytes-requires
     returns
-    slice-aggregate-size
-    size-requires
-    counts-requires
+    slice-aggregate-size-and-counts
+    size-and-counts-requires
     put-answer-requires
     returns-2
     put-refusal-requires
-    counts-requires-2
     put-places-requires
     returns-3
     returns-4)

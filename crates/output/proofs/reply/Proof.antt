@@ -19,48 +19,47 @@ returns c =
     let l = wrote-holds (c .put-bytes .ensures) (search needs) in
     (r, (rw (← long-told (c .before .before .before .before .before .args .input .now) (c .before .before .before .if1 .taken)) l, (held r, held l)))
 
-size-requires : tie.Need-size-requires
-size-requires c κs = search needs
-
-counts-requires : tie.Need-counts-requires
-counts-requires c κs = search needs
+size-and-counts-requires : tie.Need-size-and-counts-requires
+size-and-counts-requires c κs = search needs
 
 reply-length-requires : tie.Need-reply-length-requires
 reply-length-requires c κs =
-    let s = sized {before = c .before .before .before .before .before .before .args .out .now} {after = c .before .before .size .last .1 .0} (c .before .before .before .before .if1 .left) (search needs) (c .before .before .size .ensures .0) (c .before .before .size .ensures .1 .0) in
-    few s _ (c .counts .ensures) (inl (c .before .if2 .taken))
+    let z = c .before .before .before .size-and-counts in
+    let s = sized {before = c .before .before .before .before .before .before .before .args .out .now} {after = z .last .1 .0} (c .before .before .before .before .before .if1 .left) (search needs) (z .ensures .0) (z .ensures .1 .0) (z .ensures .1 .1 .1) in
+    few s (inl (c .if2 .taken))
 
 returns-2 : tie.Need-returns-2
 returns-2 c =
-    let s = sized {before = c .before .before .before .before .before .before .before .args .out .now} {after = c .before .before .before .size .last .1 .0} (c .before .before .before .before .before .if1 .left) (search needs) (c .before .before .before .size .ensures .0) (c .before .before .before .size .ensures .1 .0) in
-    let r = answer-reply s _ (c .before .counts .ensures) (c .before .before .if2 .taken) _ (c .reply-length .ensures) in
+    let z = c .before .before .before .before .size-and-counts in
+    let s = sized {before = c .before .before .before .before .before .before .before .before .args .out .now} {after = z .last .1 .0} (c .before .before .before .before .before .before .if1 .left) (search needs) (z .ensures .0) (z .ensures .1 .0) (z .ensures .1 .1 .1) in
+    let r = answer-reply s (c .before .if2 .taken) _ (c .reply-length .ensures) in
     let l = nothing-put refl in
-    (r, (rw (← answer-told s _ (c .before .counts .ensures) (c .before .before .if2 .taken)) l, (held r, held l)))
+    (r, (rw (← answer-told s (c .before .if2 .taken)) l, (held r, held l)))
 
 put-refusal-requires : tie.Need-put-refusal-requires
 put-refusal-requires c κs = search needs
 
-counts-requires-2 : tie.Need-counts-requires-2
-counts-requires-2 c κs = search needs
-
 reply-length-requires-2 : tie.Need-reply-length-requires-2
 reply-length-requires-2 c κs =
-    let s = sized {before = c .before .before .before .before .before .before .before .before .before .args .out .now} {after = c .before .before .before .before .before .size .last .1 .0} (c .before .before .before .before .before .before .before .if1 .left) (search needs) (c .before .before .before .before .before .size .ensures .0) (c .before .before .before .before .before .size .ensures .1 .0) in
-    few s _ (c .counts2 .ensures) (inr (c .before .if3 .taken))
+    let z = c .before .before .before .before .before .before .before .size-and-counts in
+    let s = sized {before = c .before .before .before .before .before .before .before .before .before .before .before .args .out .now} {after = z .last .1 .0} (c .before .before .before .before .before .before .before .before .before .if1 .left) (search needs) (z .ensures .0) (z .ensures .1 .0) (z .ensures .1 .1 .1) in
+    few s (inr (c .if3 .taken))
 
 returns-3 : tie.Need-returns-3
 returns-3 c =
-    let s = sized {before = c .before .before .before .before .before .before .before .before .before .before .args .out .now} {after = c .before .before .before .before .before .before .size .last .1 .0} (c .before .before .before .before .before .before .before .before .if1 .left) (search needs) (c .before .before .before .before .before .before .size .ensures .0) (c .before .before .before .before .before .before .size .ensures .1 .0) in
-    let r = bounds-reply s _ (c .before .counts2 .ensures) (c .before .before .if3 .taken) _ (c .reply-length2 .ensures) in
+    let z = c .before .before .before .before .before .before .before .before .size-and-counts in
+    let s = sized {before = c .before .before .before .before .before .before .before .before .before .before .before .before .args .out .now} {after = z .last .1 .0} (c .before .before .before .before .before .before .before .before .before .before .if1 .left) (search needs) (z .ensures .0) (z .ensures .1 .0) (z .ensures .1 .1 .1) in
+    let r = bounds-reply s (c .before .if3 .taken) _ (c .reply-length2 .ensures) in
     let l = wrote-holds (c .before .before .before .put-refusal .ensures .0) (search needs) in
     (r, (rw (← refused-told s (c .before .before .before .before .before .if2 .left)) l, (held r, held l)))
 
 returns-4 : tie.Need-returns-4
 returns-4 c =
-    let s = sized {before = c .before .before .before .before .before .before .before .before .args .out .now} {after = c .before .before .before .before .size .last .1 .0} (c .before .before .before .before .before .before .if1 .left) (search needs) (c .before .before .before .before .size .ensures .0) (c .before .before .before .before .size .ensures .1 .0) in
-    let r = refused-reply s (c .before .before .before .if2 .left) (c .if3 .left) in
-    let l = wrote-holds (c .before .put-refusal .ensures .0) (search needs) in
-    (r, (rw (← refused-told s (c .before .before .before .if2 .left)) l, (held r, held l)))
+    let z = c .before .before .before .before .before .before .before .size-and-counts in
+    let s = sized {before = c .before .before .before .before .before .before .before .before .before .before .before .args .out .now} {after = z .last .1 .0} (c .before .before .before .before .before .before .before .before .before .if1 .left) (search needs) (z .ensures .0) (z .ensures .1 .0) (z .ensures .1 .1 .1) in
+    let r = refused-reply s (c .before .before .before .before .if2 .left) (c .if3 .left) in
+    let l = wrote-holds (c .before .before .put-refusal .ensures .0) (search needs) in
+    (r, (rw (← refused-told s (c .before .before .before .before .if2 .left)) l, (held r, held l)))
 
 pub reply-spec : {M : Type 1} → statement M
 reply-spec =
@@ -69,12 +68,10 @@ reply-spec =
     slice-aggregate-put-bytes
     put-bytes-requires
     returns
-    size-requires
-    counts-requires
+    size-and-counts-requires
     reply-length-requires
     returns-2
     put-refusal-requires
-    counts-requires-2
     reply-length-requires-2
     returns-3
     returns-4)

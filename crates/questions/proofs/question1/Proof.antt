@@ -1,12 +1,14 @@
--- `questions::question1` meets its contract: the code is the definition.
+-- `questions::question1` meets its contract: sixteen times the count of records is the length where the length is a multiple of sixteen.
 use borrow.Author.Needs.{needs}
-use Rattle.net.specs.Questions.{question1}
+use Rattle.questions.proofs.Regroup.{question1-by}
 use Rattle.questions.proofs.question1.Statement.{statement}
 use Rattle.questions.proofs.question1.Tie as tie
 
+mul-result : tie.Need-mul-result
+mul-result c = search needs
+
 returns : tie.Need-returns
-unfolding question1
-returns c = search needs
+returns c = question1-by _ _ (c .pre)
 
 pub question1-spec : {M : Type 1} → statement M
-question1-spec = tie.close (tie.spec returns)
+question1-spec = tie.close (tie.spec mul-result returns)

@@ -3,7 +3,7 @@ use mathlib.Core.Path.{refl}
 use borrow.Author.Needs.{needs}
 use native.Mathlib.Omega.{arith}
 use Rattle.runs.proofs.Ends.{kinds-known}
-use Rattle.questions.proofs.Numbers.{some-record, counted-held, refused-1, refused-2, asked-from-3}
+use Rattle.questions.proofs.Numbers.{some-record, counted-all, counted-held, refused-1, refused-2, asked-from-3}
 use Rattle.questions.proofs.questions_from_1.Statement.{statement}
 use Rattle.questions.proofs.questions_from_1.Tie as tie
 
@@ -29,10 +29,10 @@ count-requires : tie.Need-count-requires
 count-requires c κs = (omega arith, kinds-known _ (c .before .question2 .ensures) (c .if2 .left))
 
 questions-from-3-requires : tie.Need-questions-from-3-requires
-questions-from-3-requires c κs = counted-held _ (c .count .ensures)
+questions-from-3-requires c κs = counted-held _ (counted-all _ _ (omega arith) (c .count .ensures))
 
 returns-3 : tie.Need-returns-3
-returns-3 c = asked-from-3 _ (c .before .before .before .before .before .question1 .ensures) (c .before .before .before .before .if1 .left) (c .before .before .before .question2 .ensures) (c .before .before .if2 .left) _ _ (c .before .count .ensures) (c .questions-from-3 .ensures)
+returns-3 c = asked-from-3 _ (c .before .before .before .before .before .question1 .ensures) (c .before .before .before .before .if1 .left) (c .before .before .before .question2 .ensures) (c .before .before .if2 .left) _ _ _ (omega arith) (counted-all _ _ (omega arith) (c .before .count .ensures)) (c .questions-from-3 .ensures)
 
 pub questions-from-1-spec : {M : Type 1} → statement M
 questions-from-1-spec =
