@@ -1,4 +1,5 @@
-//! Batches of calls: for small jobs, damaged jobs, jobs at the limits, large jobs and jobs around the largest room.
+//! Batches of calls: for small jobs, damaged jobs, jobs of every length, jobs at the limits, large jobs and jobs around the
+//! largest room.
 
 use std::collections::BTreeMap;
 
@@ -178,6 +179,22 @@ pub fn damaged_calls(random: &mut Random, most: u128) -> Vec<Call> {
     let mut job = plan.bytes();
     damage(random, &mut job);
     one_of_each(random, &job, &plan)
+}
+
+/// The calls for every length of a worked job and of the clock net, one of each operation: cut off, or with up to two records
+/// more.
+pub fn length_calls() -> Vec<Call> {
+    let mut random = Random::new(14);
+    let mut calls = Vec::new();
+    for plan in worked::named().into_iter().map(|(_, plan)| plan).chain([worked::clock()]) {
+        let mut longest = plan.bytes();
+        let last = longest[longest.len() - 16..].to_vec();
+        longest.extend([&last[..], &last].concat());
+        for length in 0..=longest.len() {
+            calls.extend(one_of_each(&mut random, &longest[..length], &plan));
+        }
+    }
+    calls
 }
 
 /// The calls for one job of many segments: refine at every place, and the rest.

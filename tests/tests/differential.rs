@@ -3,7 +3,7 @@
 
 use numlejka_tests::batches::{
     Counts, MOST_ALLOWED, ONE_BEST, ONE_INDEX, OUTPUTS, STRAY_SINK, TIE, count, damaged_calls, large_calls, largest_calls,
-    limit_calls, room_calls, small_calls, worked_calls,
+    length_calls, limit_calls, room_calls, small_calls, worked_calls,
 };
 use numlejka_tests::calls::{Call, expected, hex};
 use numlejka_tests::interface::run;
@@ -77,6 +77,20 @@ fn damaged_jobs() {
     assert_eq!(stray, [6, 7, 8, 9, 10]);
     for number in stray {
         assert!(counts[&(STRAY_SINK, number)] >= 100, "{number}");
+    }
+}
+
+/// Jobs of every length: the number is 1 where the length is 0 or no multiple of 16, and nowhere else.
+#[test]
+fn jobs_of_every_length() {
+    let calls = length_calls();
+    let uneven = calls
+        .iter()
+        .filter(|call| matches!(call, Call::Size { job, .. } if job.is_empty() || job.len() % 16 != 0))
+        .count();
+    let counts = compare_all("jobs of every length", calls.into_iter());
+    for operation in ["measure", "refine", "size"] {
+        assert_eq!(counts[&(operation, 1)], uneven, "{operation}");
     }
 }
 
