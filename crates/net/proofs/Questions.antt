@@ -1,15 +1,16 @@
 -- What passed questions give: a job that passes questions 1 to 11 has the facts of `Checked`, so its net is ordered and within the limits, its
--- allowed sizings are closed and not empty, its delay is submodular on them and below 2 ^ 63, and its load figure is what its stages charge.
+-- allowed sizings are closed and not empty, its delay is submodular on them and below 2 ^ 63, its load figure is what its stages charge, and
+-- each of its records is counted in its kind.
 use mathlib.Core.Path.{_≡_, refl}
 use mathlib.Core.Logic.{_↔_}
-use mathlib.Core.Bool.{Bool, true, false, cond, _&&_}
+use mathlib.Core.Bool.{Bool, true, false, _&&_}
 use mathlib.Core.List.{List, _∷_}
-use Prim.Native.Nat.{ℕ, zero, suc, _+_, _*_, _-_, _^_, _≤_, _<_}
-use native.Mathlib.Nat.{mul-le-mul, mul-le-mul-right, le-dest, div-add-mod'}
+use Prim.Native.Nat.{ℕ, suc, _+_, _*_, _-_, _^_, _≤_, _<_}
+use native.Mathlib.Nat.{mul-le-mul, mul-le-mul-right, le-dest}
 use native.Mathlib.Decide.{decLe}
 use native.Mathlib.Omega.{arith}
-use borrow.Author.Tests.{lt-ltb, le-ltb, ne-eqb}
-use lib.Dec.{T, leb, ltb, eqb, leb→le, ltb→lt, lit≤}
+use borrow.Author.Tests.{lt-ltb, le-ltb}
+use lib.Dec.{T, leb, ltb, leb→le, ltb→lt}
 use lib.ListN.{length}
 use Rattle.lattice.specs.Lists.{at, sum, every, tabulate}
 use Rattle.lattice.specs.Space.{Allowed, Falls, Rises, Boxed, inBox, within, Submodular}
@@ -17,7 +18,7 @@ use Rattle.lattice.proofs.ListLaws.{is-true, and-T, T-and, every-at, length-tab
 use Rattle.lattice.proofs.Boxes.{inBox-iff}
 use Rattle.lattice.proofs.Sums.{rises-steps, falls-steps}
 use Rattle.net.specs.declared.Counts.{Counts}
-use Rattle.net.specs.Job.{records, kind, count, countsOf, placesBy, rowResistance, rowCapacitance, sizeResistance, sizeGate, sizeOutput, stageLowest, stageHighest, segmentParent, segmentSink, segmentLength, sinkCapacitance, sinkWeight, segmentLowest, segmentHighest}
+use Rattle.net.specs.Job.{countsOf, placesBy, rowResistance, rowCapacitance, sizeResistance, sizeGate, sizeOutput, stageLowest, stageHighest, segmentParent, segmentSink, segmentLength, sinkCapacitance, sinkWeight, segmentLowest, segmentHighest}
 use Rattle.net.specs.Net.{Net, places, netBy, netOf}
 use Rattle.net.specs.Delay.{delay, loadFigure}
 use Rattle.net.specs.Segments.{stageCharge}

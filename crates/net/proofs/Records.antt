@@ -7,7 +7,7 @@ use Prim.Native.Nat.{ℕ, zero, suc, _+_, _*_, _-_, _%_, _≤_, _<_}
 use native.Mathlib.Nat.{div-add-mod'}
 use native.Mathlib.Omega.{arith}
 use borrow.Author.Tests.{le-leb, lt-leb, ne-eqb}
-use lib.Dec.{T, leb, ltb, eqb, lit≤, eqb→eq}
+use lib.Dec.{leb, ltb, eqb, lit≤, eqb→eq}
 use lib.ListN.{length}
 use Rattle.lattice.specs.Lists.{every}
 use Rattle.lattice.proofs.ListLaws.{is-true, and-T, every-at}

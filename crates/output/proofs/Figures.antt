@@ -22,6 +22,7 @@ use Rattle.net.specs.Answers.{replyLength, sizeNumber, finishedReply, boundsRep
 use Rattle.net.specs.Promises.{valueOf, replyDelay, replyBytes, Replied}
 use Rattle.net.proofs.Questions.{checked}
 use Rattle.net.proofs.Promises.{size-fails, size-passes, replied-passes, least-fits, finished-delay, finished-lean, finished-wide, finished-bounded, reply-unsearched, buffer-finished, buffer-bounds, buffer-refused, finished-long, bounds-long}
+use Rattle.size.specs.Numbers.{Settled}
 use Rattle.output.specs.Printed.{Figures, indexText, placeLine, kindLines, placeLines, netFigures, netLines, refusedLine, answerText, jobNumber, jobText, printed, replyOf, replied, told, Holds}
 use Rattle.output.specs.Lines.{field, figuresIn, placeLinesIn, answerTextIn}
 
@@ -168,10 +169,9 @@ module _ (input : List ℕ) (h : 65536 < length input) where
   long-told = rw (lt-ltb 65536 (length input) h)
 
 module _ {input before after : List ℕ} {n : ℕ} {c : Counts} where
-  -- from what the contract says
-  pub sized : length input ≤ 65536 → length before ≡ 552 → n ≡ sizeNumber input (length before) → after ≡ sizeBuffer input before
-      → (refusal input ≡ 0 → c ≡ countsOf input) → Sized input before n c after
-  sized h l e f g = record { short = h; long = l; number = e; buffer = f; counted = g }
+  -- what the contract of `size_and_counts` gives
+  pub sized : length input ≤ 65536 → length before ≡ 552 → Settled input before n after → (refusal input ≡ 0 → c ≡ countsOf input) → Sized input before n c after
+  sized h l e k = record { short = h; long = l; number = e .0; buffer = e .1 .0; counted = k }
 
 module _ {input before after : List ℕ} {n : ℕ} {c : Counts} (s : Sized input before n c after) where
   is-number : jobNumber input ≡ n

@@ -16,12 +16,11 @@ use Rattle.net.specs.Sizings.{room}
 use Rattle.net.specs.Checked.{Checked}
 use Rattle.net.specs.Questions.{refusal}
 use Rattle.net.specs.Answers.{replyLength, sizeNumber, boundsReply, replyRecords, sizeBuffer}
-use Rattle.net.specs.Promises.{Promises}
 use Rattle.net.proofs.Promises.{promises, refusal-le, size-fails, size-passes, buffer-refused}
 use Rattle.bounds.specs.Between.{roomy}
 use Rattle.finish.specs.Parts.{Bounded, bufferFrom}
 use Rattle.finish.proofs.Parts.{lower-long}
-use Rattle.size.specs.Numbers.{roomNumber}
+use Rattle.size.specs.Numbers.{roomNumber, Settled}
 
 -- question 14
 module _ (net : Net) (lower upper : List ℕ) (b : Bounded net lower upper) where
@@ -44,10 +43,6 @@ module _ {c : Counts} {job lower upper : List ℕ} (k : Checked c job) (b : Boun
       → after ≡ bufferFrom (netBy c job) 14 before
   unfolding bufferFrom boundsReply
   buffer-14 e = e ∙ rw (lower-long k b, b .isLower, b .isUpper)
-
--- what the contract of size says of its number and of the buffer that it leaves
-abbrev pub Settled : List ℕ → List ℕ → ℕ → List ℕ → Type 0
-Settled job before number after = (number ≡ sizeNumber job (length before)) × ((after ≡ sizeBuffer job before) × Promises job before number after)
 
 settled : (job before : List ℕ) (n : ℕ) (after : List ℕ) → n ≡ sizeNumber job (length before) → after ≡ sizeBuffer job before → Settled job before n after
 settled job before n after e f = (e, (f, rw (e, f) (promises job before)))

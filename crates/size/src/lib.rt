@@ -15,7 +15,7 @@ ghost use Rattle.questions.specs.Check.{CheckOf};
 ghost use Rattle.links.specs.Links.{LinkedBy};
 ghost use Rattle.place.specs.ByCounts.{Weighed};
 ghost use Rattle.finish.specs.Parts.{BoundedBy, bufferBy};
-ghost use Rattle.size.specs.Numbers.{roomNumber};
+ghost use Rattle.size.specs.Numbers.{roomNumber, Settled};
 
 // What comes of sizing a job: the number of the first question that fails, 0 where none does; and, where the job passes 1 to 11, the counts of
 // its records.
@@ -82,9 +82,7 @@ fn answer_checked(
     reply: &mut [u8],
 ) -> usize
     requires { ⌜ CheckOf (now job) checked (now first) (now next) ⌝ }
-    ensures number { λ r. ⌜ r ≡ sizeNumber (now (job .entry)) (length (now (reply .entry))) ⌝ }
-    ensures buffer { λ r. ⌜ now (reply .exit) ≡ sizeBuffer (now (job .entry)) (now (reply .entry)) ⌝ }
-    ensures promises { λ r. ⌜ Promises (now (job .entry)) (now (reply .entry)) r (now (reply .exit)) ⌝ }
+    ensures { λ r. ⌜ Settled (now (job .entry)) (now (reply .entry)) r (now (reply .exit)) ⌝ }
 {
     if checked.number != 0 {
         return checked.number;
@@ -110,9 +108,7 @@ fn answer_checked(
 // The number of size, and the counts that the check found. The reply of a job is written into the buffer for the numbers 0 and 14; every other
 // number leaves the buffer as it was.
 pub fn size_and_counts(job: &[u8], reply: &mut [u8]) -> NumberAndCounts
-    ensures number { λ r. ⌜ r .number ≡ sizeNumber (now (job .entry)) (length (now (reply .entry))) ⌝ }
-    ensures buffer { λ r. ⌜ now (reply .exit) ≡ sizeBuffer (now (job .entry)) (now (reply .entry)) ⌝ }
-    ensures promises { λ r. ⌜ Promises (now (job .entry)) (now (reply .entry)) (r .number) (now (reply .exit)) ⌝ }
+    ensures settled { λ r. ⌜ Settled (now (job .entry)) (now (reply .entry)) (r .number) (now (reply .exit)) ⌝ }
     ensures counts { λ r. ⌜ (refusal (now (job .entry)) ≡ 0 → r .counts ≡ countsOf (now (job .entry))) ⌝ }
 {
     let mut first = [0usize; 65];

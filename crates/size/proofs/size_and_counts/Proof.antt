@@ -29,7 +29,7 @@ returns : tie.Need-returns
 returns c =
     let a = c .before .before .answer-checked .ensures in
     let k = c .before .before .before .before .before .before .before .before .before .check .ensures in
-    (a .0, (a .1 .0, (a .1 .1, λ e. k .passed (k .number ∙ e) .counted)))
+    (a, λ e. k .passed (k .number ∙ e) .counted)
 
 pub size-and-counts-spec : {M : Type 1} → statement M
 size-and-counts-spec =
