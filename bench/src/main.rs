@@ -15,10 +15,10 @@ use timing::{Times, interleaved};
 /// A reply buffer that holds every reply. It is not cleared between calls.
 const REPLY: usize = 552;
 
-/// Calls of size with room for so many bytes of a reply.
-fn size_timed(job: &[u8], room: usize, size: impl Fn(&[u8], &mut [u8]) -> usize) -> impl FnMut() {
+/// Calls of size with a reply buffer of some length.
+fn size_timed(job: &[u8], length: usize, size: impl Fn(&[u8], &mut [u8]) -> usize) -> impl FnMut() {
     let job = job.to_vec();
-    let mut reply = vec![0; room];
+    let mut reply = vec![0; length];
     move || {
         black_box(size(black_box(&job), black_box(&mut reply)));
     }

@@ -184,7 +184,7 @@ pub fn damaged_calls(random: &mut Random, most: u128) -> Vec<Call> {
 /// The calls for every length of a worked job and of the clock net, one of each operation: cut off, or with up to two records
 /// more.
 pub fn length_calls() -> Vec<Call> {
-    let mut random = Random::new(14);
+    let mut random = Random::new(15);
     let mut calls = Vec::new();
     for plan in worked::named().into_iter().map(|(_, plan)| plan).chain([worked::clock()]) {
         let mut longest = plan.bytes();

@@ -84,14 +84,13 @@ fn damaged_jobs() {
 #[test]
 fn jobs_of_every_length() {
     let calls = length_calls();
-    let uneven = calls
-        .iter()
-        .filter(|call| matches!(call, Call::Size { job, .. } if job.is_empty() || job.len() % 16 != 0))
-        .count();
-    let counts = compare_all("jobs of every length", calls.into_iter());
-    for operation in ["measure", "refine", "size"] {
-        assert_eq!(counts[&(operation, 1)], uneven, "{operation}");
+    for call in &calls {
+        if let Call::Measure { job, .. } | Call::Refine { job, .. } | Call::Size { job, .. } = call {
+            let uneven = job.is_empty() || job.len() % 16 != 0;
+            assert_eq!(expected(call).number == 1, uneven, "{}", call.text());
+        }
     }
+    compare_all("jobs of every length", calls.into_iter());
 }
 
 /// Every field and count at its limit and beyond.

@@ -38,7 +38,7 @@ at-most-one : (t : Bool) → cond t 1 0 ≤ 1
 at-most-one true = lit≤ tt
 at-most-one false = lit≤ tt
 
-counts-small : (b : List ℕ) (n : ℕ) → count b 1 n + count b 2 n + count b 3 n + count b 4 n ≤ n
+pub counts-small : (b : List ℕ) (n : ℕ) → count b 1 n + count b 2 n + count b 3 n + count b 4 n ≤ n
 unfolding count
 counts-small b zero = lit≤ tt
 counts-small b (suc n) = omega (arith, counts-small b n, one-kind (kind b n), at-most-one (inRange 1 4 (kind b n)))

@@ -189,12 +189,15 @@ module _ {input before after : List ℕ} {n : ℕ} {c : Counts} (s : Sized input
   unfolding told
   job-told = rw (le-ltb 65536 (length input) (s .short), is-number)
 
-  -- where there is a reply, the counts are those of the job
+  -- where there is a reply, the job passes questions 1 to 11, and the counts are its own
+  passes : Replied n → refusal input ≡ 0
+  passes r = replied-passes input (length before) (rw (s .number) at r) .0
+
   counts-are : Replied n → c ≡ countsOf input
-  counts-are r = s .counted (replied-passes input (length before) (rw (s .number) at r) .0)
+  counts-are r = s .counted (passes r)
 
   pub few : Replied n → c .stages + c .segments ≤ 68
-  few r = rw (counts-are r) (few-places input (replied-passes input (length before) (rw (s .number) at r) .0))
+  few r = rw (counts-are r) (few-places input (passes r))
 
   -- with the number 0
   module _ (e : n ≡ 0) where

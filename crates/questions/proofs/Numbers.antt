@@ -3,6 +3,7 @@ use mathlib.Core.Path.{_≡_, _∙_, refl, sym, ap}
 use mathlib.Core.Bool.{Bool, true, false, not, cond}
 use mathlib.Core.List.{List, [], _∷_, _++_}
 use Prim.Native.Nat.{ℕ, zero, suc, _*_, _%_, _≤_}
+use native.Mathlib.Nat.{div-add-mod'}
 use native.Mathlib.Omega.{arith}
 use borrow.Author.Tests.{not-true, not-false}
 use lib.Dec.{T, leb, ltb, eqb, leb→le, ltb→lt}
@@ -13,7 +14,7 @@ use Rattle.net.specs.Job.{records, countsOf, segmentParent}
 use Rattle.net.specs.Net.{netBy}
 use Rattle.net.specs.Questions.{inRange, question1, question2, question3, question4, question5, question6, question7, question8, question9, question10, question11, Question, ask, firstNo, jobQuestions, refusal}
 use Rattle.net.specs.Checked.{Held}
-use Rattle.net.proofs.Records.{records-fill, counts-held}
+use Rattle.net.proofs.Records.{records-fill, counts-small, counts-held}
 use Rattle.net.proofs.Questions.{in-range, checked}
 use Rattle.links.specs.Links.{Parents, Linked}
 use Rattle.questions.specs.declared.Outcome.{Outcome}
@@ -56,13 +57,13 @@ some-record b {r} e t =
     let a = and-T (ltb 0 (length b)) (eqb (_%_ (length b) 16) 0) (rw y tt) in
     omega (arith, ltb→lt 0 (length b) (a .0), records-fill b y)
 
--- All n records are counted by kind, and they are there.
+-- Records that are counted by kind are there, and where they are all, the counts are those of the job.
+pub counted-held : (b : List ℕ) (n : ℕ) {c : Counts} → n ≤ records b → c ≡ countsTo b n → Held c b
+counted-held b n h e = rw e record { all = omega (arith, counts-small b n, div-add-mod' (length b) 16) }
+
 pub counted-all : (b : List ℕ) (n : ℕ) {c : Counts} → n ≡ records b → c ≡ countsTo b n → c ≡ countsOf b
 unfolding countsOf
 counted-all b n e f = f ∙ ap (countsTo b) e
-
-pub counted-held : (b : List ℕ) {c : Counts} → c ≡ countsOf b → Held c b
-counted-held b e = rw e (counts-held b)
 
 -- A number that is found among some questions is that of all.
 found : (qs rs : List Question) (n : ℕ) → suc n ≡ firstNo qs → suc n ≡ firstNo (qs ++ rs)

@@ -12,8 +12,8 @@ use Rattle.net.specs.Checked.{Held, Checked}
 use Rattle.links.specs.Links.{Parents, First, Linked}
 use Rattle.questions.specs.declared.Outcome.{Outcome}
 
--- The number is that of the first question that the job fails, and sixteen times the count of records is the length wherever question 1 passes;
--- where the number is 0 the job has the facts of `Checked`, and its segments are linked.
+-- The number is that of the first question that the job fails; the count is that of the job's records, and sixteen times it is the length wherever
+-- question 1 passes; where the number is 0 the job has the facts of `Checked`, and its segments are linked.
 pub record CheckOf (job : List ℕ) (r : Outcome) (first next : List ℕ) : Type 0 where
   pub number : r .number ≡ refusal job
   pub records : r .records ≡ records job
@@ -29,7 +29,7 @@ pub record Linkable (c : Counts) (b : List ℕ) : Type 0 where
   pub parents : Parents (netBy c b)
   pub decides : cond (question11 c b) 0 11 ≡ refusal b
 
--- The number is that of the first question that the job fails, or 0 where it passes 1 to 10, and its records are counted.
+-- The number is that of the first question that the job fails, or 0 where it passes 1 to 10; the count is that of the job's records.
 pub record Asked (job : List ℕ) (r : Outcome) : Type 0 where
   pub records : r .records ≡ records job
   pub fails : (r .number ≡ 0 → ⊥) → r .number ≡ refusal job

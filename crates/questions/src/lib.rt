@@ -210,8 +210,8 @@ fn uncounted(number: usize, n: usize) -> Outcome
     }
 }
 
-// The number of the first of questions 1 to 10 that a job fails, 0 where it passes them; and the counts of its records. The length is divided
-// here and nowhere else.
+// The number of the first of questions 1 to 10 that a job fails, 0 where it passes them; the count of its records; and, where it passes them,
+// their counts by kind. The length is divided here and nowhere else.
 fn questions_from_1(job: &[u8]) -> Outcome
     ensures { λ r. ⌜ Asked (now (job .entry)) r ⌝ }
 {

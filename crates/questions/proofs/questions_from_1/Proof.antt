@@ -29,7 +29,7 @@ count-requires : tie.Need-count-requires
 count-requires c κs = (omega arith, kinds-known _ (c .before .question2 .ensures) (c .if2 .left))
 
 questions-from-3-requires : tie.Need-questions-from-3-requires
-questions-from-3-requires c κs = counted-held _ (counted-all _ _ (omega arith) (c .count .ensures))
+questions-from-3-requires c κs = counted-held _ _ (omega arith) (c .count .ensures)
 
 returns-3 : tie.Need-returns-3
 returns-3 c = asked-from-3 _ (c .before .before .before .before .before .question1 .ensures) (c .before .before .before .before .if1 .left) (c .before .before .before .question2 .ensures) (c .before .before .if2 .left) _ _ _ (omega arith) (counted-all _ _ (omega arith) (c .before .count .ensures)) (c .questions-from-3 .ensures)
