@@ -10,7 +10,7 @@ use crate::generate::{
 };
 use crate::limits::{largest_plans, limits};
 use crate::plan::Plan;
-use crate::questions::{read, stray_sink_alone};
+use crate::questions::{first_no, layer_faults, read, stray_sink_alone};
 use crate::random::Random;
 use crate::reference::{Refined, measure, refine};
 use crate::worked;
@@ -28,8 +28,20 @@ pub const TIE_AT_0: &str = "refine with a tie at 0";
 /// stage's alone, or with the gates twice is another one.
 pub const OUTPUTS: &str = "measure with an output of stage 0, not the last";
 
-/// A call on a job that passes 1 to 4 and has its unnamed bytes zero, but a capacitance or a weight where there is no sink.
+/// A call on a job that passes 1, 2, 24, 3 and 4 and has its unnamed bytes zero, but a capacitance or a weight where there is no sink.
 pub const STRAY_SINK: &str = "a stray sink alone";
+
+/// A call that is refused with 24 for one of its four ways alone: a width's layer byte, a segment's layer byte, layers that fall,
+/// layer 1 named and empty.
+pub const LAYER_FAULTS: [&str; 4] = [
+    "24 for a width's layer",
+    "24 for a segment's layer",
+    "24 for layers that fall",
+    "24 for layer 1, named and empty",
+];
+
+/// A call on a job that passes and has segments on both layers.
+pub const BOTH_LAYERS: &str = "segments on both layers";
 
 /// How often each operation returned each number, and what its call met.
 pub type Counts = BTreeMap<(&'static str, u64), usize>;
@@ -52,6 +64,31 @@ fn met(call: &Call) -> Option<&'static str> {
         }
         Call::Measure { job, sizing, .. } => met_by(job, sizing),
         Call::Refine { job, sizing, place, .. } => met_at(job, sizing, *place),
+        _ => None,
+    }
+}
+
+/// The job of a call.
+pub fn job_of(call: &Call) -> &[u8] {
+    match call {
+        Call::Measure { job, .. } | Call::Refine { job, .. } | Call::Choose { job, .. } | Call::Size { job, .. } => job,
+    }
+}
+
+/// What a call meets in the layers of its job: one way to fail question 24, of a call that tells its number, or segments on both.
+fn met_in_layers(call: &Call) -> Option<&'static str> {
+    let job = job_of(call);
+    match first_no(job) {
+        0 => {
+            let on_layer = |layer: usize| read(job).is_ok_and(|net| net.segments.iter().any(|segment| segment.layer == layer));
+            (on_layer(0) && on_layer(1)).then_some(BOTH_LAYERS)
+        }
+        24 if !matches!(call, Call::Choose { .. }) => {
+            let faults = layer_faults(job);
+            let alone = faults.iter().filter(|&&fault| fault).count() == 1;
+            let way = faults.iter().position(|&fault| fault)?;
+            alone.then_some(LAYER_FAULTS[way])
+        }
         _ => None,
     }
 }
@@ -84,7 +121,7 @@ fn met_at(job: &[u8], sizing: &[u8], place: usize) -> Option<&'static str> {
 
 /// Counts a call that has a number, by its operation and by what it meets.
 pub fn count(counts: &mut Counts, call: &Call, number: u64) {
-    for name in [Some(operation(call)), met(call)].into_iter().flatten() {
+    for name in [Some(operation(call)), met(call), met_in_layers(call)].into_iter().flatten() {
         *counts.entry((name, number)).or_default() += 1;
     }
 }

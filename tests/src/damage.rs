@@ -85,10 +85,79 @@ fn drop_kind(random: &mut Random, job: &mut Vec<u8>) {
         .collect();
 }
 
-/// Repeats the last record of a kind, numbered on, until there is one too many.
+/// The positions of the widths of a layer.
+fn widths_of(job: &[u8], layer: u8) -> Vec<usize> {
+    let mut found = records(job, 1);
+    found.retain(|&at| job[at + 2] == layer);
+    found
+}
+
+/// Drops all widths of a layer.
+fn drop_layer(random: &mut Random, job: &mut Vec<u8>) {
+    let layer = random.between(0, 1) as u8;
+    *job = job
+        .chunks(RECORD)
+        .filter(|record| record[0] != 1 || record[2] != layer)
+        .flatten()
+        .copied()
+        .collect();
+}
+
+/// Puts all widths on layer 1, numbered on, so that layer 0 is empty.
+fn empty_first_layer(_: &mut Random, job: &mut Vec<u8>) {
+    for (number, at) in records(job, 1).into_iter().enumerate() {
+        (job[at + 1], job[at + 2]) = (number as u8, 1);
+    }
+    for at in records(job, 4) {
+        job[at + 15] = 1;
+    }
+}
+
+/// Gives a width a layer that there is not; the last one, so that the layers do not fall, or any.
+fn bad_width_layer(random: &mut Random, job: &mut Vec<u8>) {
+    let found = records(job, 1);
+    let Some(&last) = found.last() else { return };
+    let at = if random.once_in(2) { last } else { random.pick(&found) };
+    job[at + 2] = random.pick(&[2, 3, 128, 255]);
+}
+
+/// Gives a segment a layer that there is not.
+fn bad_segment_layer(random: &mut Random, job: &mut Vec<u8>) {
+    if let Some(at) = any_record(random, job, 4) {
+        job[at + 15] = random.pick(&[2, 3, 128, 255]);
+    }
+}
+
+/// Puts a width on the other layer, so that layers fall unless it is at the border of the two.
+fn other_layer(random: &mut Random, job: &mut Vec<u8>) {
+    if let Some(at) = any_record(random, job, 1) {
+        job[at + 2] ^= 1;
+    }
+}
+
+/// Lets a segment name layer 1 in a job that has no widths there: they are dropped, or put on layer 0 and numbered on.
+fn name_empty_layer(random: &mut Random, job: &mut Vec<u8>) {
+    if let Some(at) = any_record(random, job, 4) {
+        job[at + 15] = 1;
+    }
+    let (first, second) = (widths_of(job, 0).len(), widths_of(job, 1));
+    if random.once_in(2) {
+        for (i, at) in second.into_iter().enumerate() {
+            (job[at + 1], job[at + 2]) = ((first + i) as u8, 0);
+        }
+    } else {
+        second.into_iter().rev().for_each(|at| drop(job.drain(at..at + RECORD)));
+    }
+}
+
+/// Repeats the last record of a kind, of widths that of a layer, numbered on, until there is one too many.
 fn too_many(random: &mut Random, job: &mut Vec<u8>) {
     let (kind, most) = random.pick(&[(1u8, 8usize), (2, 16), (3, 4), (4, 64)]);
-    let found = records(job, kind);
+    let found = if kind == 1 {
+        widths_of(job, random.between(0, 1) as u8)
+    } else {
+        records(job, kind)
+    };
     let Some(&last) = found.last() else { return };
     let copy = job[last..last + RECORD].to_vec();
     for number in (found.len()..most + 1).rev() {
@@ -104,20 +173,27 @@ fn change_number(random: &mut Random, job: &mut Vec<u8>) {
     job[at + 1] = random.pick(&[job[at + 1].wrapping_add(1), job[at + 1].wrapping_sub(1), 0, 255]);
 }
 
+/// Numbers the widths of layer 1 on from those of layer 0.
+fn number_on(_: &mut Random, job: &mut Vec<u8>) {
+    let first = widths_of(job, 0).len();
+    for (i, at) in widths_of(job, 1).into_iter().enumerate() {
+        job[at + 1] = (first + i) as u8;
+    }
+}
+
 /// Drops one record, so that the numbers after it do not fit.
 fn drop_record(random: &mut Random, job: &mut Vec<u8>) {
     let at = random.below(job.len() / RECORD) * RECORD;
     job.drain(at..at + RECORD);
 }
 
-/// Sets an unnamed byte of a record.
+/// Sets an unnamed byte of a record; a segment has none.
 fn set_unnamed(random: &mut Random, job: &mut Vec<u8>) {
-    let kind = random.between(1, 4) as u8;
+    let kind = random.between(1, 3) as u8;
     let unnamed: &[usize] = match kind {
-        1 => &[2, 3, 12, 13, 14, 15],
+        1 => &[3, 12, 13, 14, 15],
         2 => &[2, 3],
-        3 => &[4, 5, 6, 7, 8, 9, 10, 11, 12, 13, 14, 15],
-        _ => &[15],
+        _ => &[4, 5, 6, 7, 8, 9, 10, 11, 12, 13, 14, 15],
     };
     if let Some(at) = any_record(random, job, kind) {
         job[at + random.pick(unnamed)] = random.between(1, 255) as u8;
@@ -214,10 +290,15 @@ fn sink_beyond(random: &mut Random, job: &mut Vec<u8>) {
     put_beyond(random, job, 4, 8, 100_000);
 }
 
-/// Damages the range of a segment.
+/// Damages the range of a segment, by the count of widths of its layer, of the other one, or of both.
 fn bad_segment_range(random: &mut Random, job: &mut Vec<u8>) {
-    let count = records(job, 1).len();
     if let Some(at) = any_record(random, job, 4) {
+        let layer = job[at + 15];
+        let count = match random.below(3) {
+            0 => records(job, 1).len(),
+            1 => widths_of(job, layer).len(),
+            _ => widths_of(job, layer ^ 1).len(),
+        };
         bad_range(random, job, at, 13, count);
     }
 }
@@ -266,13 +347,17 @@ fn any_byte(random: &mut Random, job: &mut Vec<u8>) {
     job[at] = random.byte();
 }
 
-/// The damages meant for a question of 1 to 11; for 0 any byte.
+/// The questions of a job in their order; 0 stands for any byte.
+const ORDER: [usize; 13] = [0, 1, 2, 24, 3, 4, 5, 6, 7, 8, 9, 10, 11];
+
+/// The damages meant for a question of a job; for 0 any byte.
 fn damages_for(question: usize) -> &'static [Damage] {
     match question {
         1 => &[cut_end, add_part, empty],
         2 => &[unknown_kind, swap_records, swap_ends],
-        3 => &[drop_kind, too_many],
-        4 => &[change_number, swap_records, drop_record],
+        24 => &[bad_width_layer, bad_segment_layer, other_layer, name_empty_layer],
+        3 => &[drop_kind, drop_layer, empty_first_layer, too_many],
+        4 => &[change_number, number_on, swap_records, drop_record],
         5 => &[set_unnamed],
         6 => &[width_beyond, size_beyond],
         7 => &[disorder, repeat_row],
@@ -287,11 +372,11 @@ fn damages_for(question: usize) -> &'static [Damage] {
 /// Damages a valid job once, twice or three times, so that the order of the questions shows too.
 pub fn damage(random: &mut Random, job: &mut Vec<u8>) {
     let times = random.pick(&[1, 1, 2, 2, 3]);
-    let mut questions: Vec<usize> = (0..times).map(|_| random.below(12)).collect();
+    let mut questions: Vec<usize> = (0..times).map(|_| random.below(ORDER.len())).collect();
     questions.sort_by(|a, b| b.cmp(a));
     for question in questions {
         if job.len() >= RECORD {
-            let kind = random.pick(damages_for(question));
+            let kind = random.pick(damages_for(ORDER[question]));
             kind(random, job);
         }
     }

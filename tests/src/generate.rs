@@ -139,6 +139,7 @@ pub fn plan_of(random: &mut Random, segments: usize, most: u128) -> Plan {
         sizes,
         stages: vec![[fixed, fixed]],
         segments: Vec::new(),
+        ..Plan::default()
     };
     for _ in 1..stage_count {
         plan.stages.push(range(random, size_count));
@@ -237,6 +238,7 @@ pub fn tied_star(random: &mut Random, count: usize) -> Plan {
                 sizes,
                 stages,
                 segments,
+                ..Plan::default()
             };
         }
     }
@@ -259,24 +261,54 @@ pub fn nearly_tied_plan(random: &mut Random, most: u128) -> Plan {
     plan
 }
 
-/// A small valid job's plan: of any kind, with stages and widths that pull each other, or with ties.
-pub fn small_plan(random: &mut Random, most: u128) -> Plan {
-    let segments = random.pick(&[1, 1, 2, 2, 3, 3, 4, 4, 5, 5, 6, 7, 9, 12]);
-    match random.below(4) {
-        0 | 1 => plan_of(random, segments, most),
-        2 => pulling_plan(random, most),
-        _ => nearly_tied_plan(random, most),
+/// Gives a plan a second layer, with the rows of the first or with its own, and puts some of its segments on it, all or none.
+fn add_layer(random: &mut Random, plan: &mut Plan) {
+    let own = random.once_in(3);
+    plan.thick = if own {
+        plan.widths.clone()
+    } else {
+        let count = random.pick(&[1, 2, 2, 3, 4, 8]);
+        table(random, count, 32)
+    };
+    let one_in = random.pick(&[1, 2, 2, 2, 3, usize::MAX]);
+    for segment in 0..plan.segments.len() {
+        if random.once_in(one_in) {
+            plan.segments[segment].layer = 1;
+            if !own {
+                let range = range(random, plan.thick.len());
+                plan.set_range(plan.stages.len() + segment, range);
+            }
+        }
     }
 }
 
-/// A valid job's plan of 10 to 64 segments whose ranges are not narrowed.
+/// A small valid job's plan: of any kind, with stages and widths that pull each other, or with ties; with one layer or two.
+pub fn small_plan(random: &mut Random, most: u128) -> Plan {
+    let segments = random.pick(&[1, 1, 2, 2, 3, 3, 4, 4, 5, 5, 6, 7, 9, 12]);
+    let mut plan = match random.below(4) {
+        0 | 1 => plan_of(random, segments, most),
+        2 => pulling_plan(random, most),
+        _ => nearly_tied_plan(random, most),
+    };
+    if random.once_in(2) {
+        add_layer(random, &mut plan);
+        narrow(random, &mut plan, most);
+    }
+    plan
+}
+
+/// A valid job's plan of 10 to 64 segments whose ranges are not narrowed, with one layer or two.
 pub fn large_plan(random: &mut Random) -> Plan {
     let segments = random.between(10, 64) as usize;
-    if random.once_in(2) {
+    let mut plan = if random.once_in(2) {
         plan_of(random, segments, u128::MAX)
     } else {
         geometric_plan(random, segments)
+    };
+    if random.once_in(2) {
+        add_layer(random, &mut plan);
     }
+    plan
 }
 
 /// A plan of many segments in which resistance falls and capacitance rises by a factor from row to row, as in clock nets.
@@ -310,6 +342,7 @@ pub fn weightless_plan(random: &mut Random, stage_counts: &[u8], segment_counts:
         sizes,
         stages: vec![[3, 3]],
         segments: Vec::new(),
+        ..Plan::default()
     };
     plan.stages.extend(stage_counts.iter().map(|count| [0, count - 1]));
     let shape = random.pick(&SHAPES);

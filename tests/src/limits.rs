@@ -1,11 +1,11 @@
-//! Jobs at and just beyond every limit, jobs with a capacitance or a weight where there is no sink, and jobs of the largest size
-//! and figures.
+//! Jobs at and just beyond every limit, jobs with a capacitance or a weight where there is no sink, jobs of two layers, and jobs of
+//! the largest size and figures.
 
 use crate::generate::{SHAPES, Shape, parent_byte};
 use crate::plan::{Plan, segment_with_sink, segment_without_sink};
 use crate::random::Random;
 
-/// A job with a name and the number with which every operation has to meet it (0: not refused by questions 1 to 11).
+/// A job with a name and the number with which every operation has to meet it (0: not refused by its own questions).
 pub struct Limit {
     pub name: String,
     pub job: Vec<u8>,
@@ -19,6 +19,7 @@ fn middle() -> Plan {
         sizes: vec![[4_000, 300, 7], [2_000, 600, 9]],
         stages: vec![[0, 0], [0, 1]],
         segments: vec![segment_without_sink(0, 50, [0, 1]), segment_with_sink(1, 60, 500, 3, [0, 1])],
+        ..Plan::default()
     }
 }
 
@@ -199,6 +200,7 @@ fn counted(widths: u32, sizes: u32, stages: usize, segments: usize) -> Plan {
         sizes: (0..sizes).map(|i| [sizes - i, 1 + i, i % 3]).collect(),
         stages: vec![[0, 0]; stages],
         segments: vec![segment_with_sink(0, 1, 1, 1, [0, 0]); segments],
+        ..Plan::default()
     }
 }
 
@@ -263,7 +265,7 @@ const BYTES: [(usize, usize, u8, u64); 26] = [
     (7, 14, 0, 0),
     (7, 14, 2, 10),
     (7, 14, 255, 10),
-    (7, 15, 1, 5),
+    (7, 15, 1, 24),
 ];
 
 /// Every one-byte field at its limits and beyond them.
@@ -297,15 +299,17 @@ const STRAY_SINKS: [(usize, &[(usize, u8)]); 7] = [
 type Change = fn(&mut Vec<u8>);
 
 /// What else may be wrong with such a job, one question's or two's, and the number that it then has.
-const BESIDE: [(u64, Change); 20] = [
+const BESIDE: [(u64, Change); 22] = [
     (1, |job| job.truncate(16 * 7 + 15)),
     (2, |job| job[0] = 5),
+    (24, |job| job[16 * 7 + 15] = 1),
+    (24, |job| (job[2], job[4]) = (2, 0)),
     (3, |job| drop(job.drain(16 * 4..16 * 6))),
     (4, |job| job[16 + 1] = 0),
     (4, |job| job[16 * 7 + 1] = 2),
-    (5, |job| job[2] = 1),
-    (5, |job| job[16 * 7 + 15] = 1),
-    (5, |job| (job[2], job[4]) = (1, 0)),
+    (5, |job| job[3] = 1),
+    (5, |job| job[16 * 4 + 15] = 1),
+    (5, |job| (job[3], job[4]) = (1, 0)),
     (6, |job| job[4] = 0),
     (6, |job| job[16 * 3 + 14] = 2),
     (6, |job| (job[16 * 3 + 14], job[16 * 7 + 2]) = (2, 2)),
@@ -320,7 +324,8 @@ const BESIDE: [(u64, Change); 20] = [
     (10, |_| ()),
 ];
 
-/// Jobs with a capacitance or a weight where there is no sink: 10 comes for it, before 11, and each number of 1 to 9 before 10.
+/// Jobs with a capacitance or a weight where there is no sink: 10 comes for it, before 11, and 24 and each number of 1 to 9 before
+/// 10.
 fn stray_sinks() -> Vec<Limit> {
     let mut limits = Vec::new();
     for (record, changes) in STRAY_SINKS {
@@ -340,12 +345,170 @@ fn stray_sinks() -> Vec<Limit> {
     limits
 }
 
-/// All jobs at and just beyond a limit, and those with a capacitance or a weight where there is no sink.
+/// The middle job with a second layer, which segment 1 uses. Its rows have larger capacitances than those of layer 0; widths are
+/// the records 0 to 3, sizes 4 and 5, stages 6 and 7, segments 8 and 9.
+fn two_layers() -> Plan {
+    let mut plan = middle();
+    plan.thick = vec![[9, 70], [5, 90]];
+    plan.segments[1].layer = 1;
+    plan
+}
+
+/// Question 24 in each of its ways, before 3 and after 2, and the other questions in layer 1 alone: what is changed in the job of
+/// two layers, and its number then.
+const LAYERS: [(&str, u64, Change); 45] = [
+    ("nothing", 0, |_| ()),
+    ("layer 1 not named", 0, |job| job[16 * 9 + 15] = 0),
+    ("both segments on layer 1", 0, |job| job[16 * 8 + 15] = 1),
+    ("the last width's layer is 2", 24, |job| job[16 * 3 + 2] = 2),
+    ("the last width's layer is 255", 24, |job| job[16 * 3 + 2] = 255),
+    ("both layer 1 widths have layer 2", 24, |job| {
+        (job[16 * 2 + 2], job[16 * 3 + 2], job[16 * 9 + 15]) = (2, 2, 0);
+    }),
+    ("all widths have layer 2", 24, |job| {
+        (0..4).for_each(|width| job[16 * width + 2] = 2)
+    }),
+    ("the first segment's layer is 2", 24, |job| job[16 * 8 + 15] = 2),
+    ("the last segment's layer is 2", 24, |job| job[16 * 9 + 15] = 2),
+    ("the last segment's layer is 255", 24, |job| job[16 * 9 + 15] = 255),
+    ("layers fall at the first width", 24, |job| job[2] = 1),
+    ("layers fall at the last width", 24, |job| job[16 * 3 + 2] = 0),
+    ("layers fall and all rows are in order", 24, |job| {
+        (job[2], job[16 + 2], job[16 * 2 + 2], job[16 * 3 + 2]) = (1, 1, 0, 0);
+    }),
+    ("layer 1 named and empty", 24, |job| drop(job.drain(16 * 2..16 * 4))),
+    ("layer 1 named and of layer 0", 24, |job| {
+        (job[16 * 2 + 2], job[16 * 3 + 2]) = (0, 0)
+    }),
+    ("layer 1 empty and not named", 0, |job| {
+        job[16 * 9 + 15] = 0;
+        drop(job.drain(16 * 2..16 * 4));
+    }),
+    ("1 before 24", 1, |job| {
+        job[16 * 3 + 2] = 2;
+        job.push(0);
+    }),
+    ("2 before 24: a kind", 2, |job| (job[0], job[16 * 3 + 2]) = (5, 2)),
+    ("2 before 24: kinds that fall", 2, |job| {
+        (job[16 * 8], job[16 * 9 + 15]) = (2, 2)
+    }),
+    ("24 before 3: no stage", 24, |job| {
+        job[16 * 3 + 2] = 2;
+        drop(job.drain(16 * 6..16 * 8));
+    }),
+    ("24 before 3: no width", 24, |job| drop(job.drain(..16 * 4))),
+    ("24 before 3: no segment", 24, |job| {
+        job[2] = 1;
+        drop(job.drain(16 * 8..));
+    }),
+    ("24 before 4", 24, |job| (job[16 * 3 + 1], job[16 * 3 + 2]) = (7, 2)),
+    ("24 before 5", 24, |job| (job[3], job[16 * 9 + 15]) = (1, 2)),
+    ("24 before 6", 24, |job| (job[4], job[16 * 9 + 15]) = (0, 2)),
+    ("24 before 7", 24, |job| (job[16 + 4], job[2]) = (40, 1)),
+    ("24 before 8", 24, |job| (job[16 * 7 + 3], job[16 * 3 + 2]) = (9, 2)),
+    ("24 before 9", 24, |job| (job[16 * 8 + 2], job[16 * 3 + 2]) = (1, 2)),
+    ("24 before 10", 24, |job| (job[16 * 9 + 14], job[16 * 9 + 15]) = (9, 2)),
+    ("24 before 11", 24, |job| (job[16 * 9 + 2], job[16 * 3 + 2]) = (0, 2)),
+    ("3: layer 0 empty", 3, |job| (job[2], job[16 + 2]) = (1, 1)),
+    ("3: no width, layer 1 not named", 3, |job| {
+        job[16 * 9 + 15] = 0;
+        drop(job.drain(..16 * 4));
+    }),
+    ("4: layer 1 counts on from layer 0", 4, |job| {
+        (job[16 * 2 + 1], job[16 * 3 + 1]) = (2, 3)
+    }),
+    ("4: the last of layer 1", 4, |job| job[16 * 3 + 1] = 2),
+    ("4: layer 1 counts from 1", 4, |job| {
+        (job[16 * 2 + 1], job[16 * 3 + 1]) = (1, 2)
+    }),
+    ("5: byte 3 of a width of layer 1", 5, |job| job[16 * 2 + 3] = 1),
+    ("5: byte 12 of a width of layer 1", 5, |job| job[16 * 3 + 12] = 1),
+    ("6: a resistance of layer 1", 6, |job| job[16 * 2 + 4] = 101),
+    ("6: a capacitance of layer 1", 6, |job| job[16 * 3 + 8] = 0),
+    ("7: equal resistances in layer 1", 7, |job| job[16 * 3 + 4] = 9),
+    ("7: equal capacitances in layer 1", 7, |job| job[16 * 3 + 8] = 70),
+    ("no order from layer 0 to layer 1", 0, |job| {
+        (job[16 * 2 + 4], job[16 * 2 + 8]) = (90, 10)
+    }),
+    ("equal rows in the two layers", 0, |job| {
+        let rows = job[..16 * 2].to_vec();
+        job[16 * 2..16 * 4].copy_from_slice(&rows);
+        (job[16 * 2 + 2], job[16 * 3 + 2]) = (1, 1);
+    }),
+    ("10: highest beyond layer 1, within both", 10, |job| job[16 * 9 + 14] = 2),
+    ("10: highest beyond layer 0, within both", 10, |job| job[16 * 8 + 14] = 2),
+];
+
+/// A plan with given counts of widths in each layer, and a segment on each layer that has any, at its highest width.
+fn layered(first: u8, second: u8) -> Plan {
+    let table = |count: u8| (0..u32::from(count)).map(|i| [50 - i, 1 + i]).collect();
+    let mut plan = counted(1, 1, 1, 0);
+    (plan.widths, plan.thick) = (table(first), table(second));
+    for (layer, count) in [(0, first), (1, second)] {
+        if count > 0 {
+            let mut segment = segment_with_sink(0, 7, 3, 2, [count - 1, count - 1]);
+            segment.layer = layer;
+            plan.segments.push(segment);
+        }
+    }
+    plan
+}
+
+/// Jobs of two layers: changed in one field, and with counts of widths in each layer at their limits and beyond them.
+fn layer_limits() -> Vec<Limit> {
+    let mut limits = Vec::new();
+    for (name, number, change) in LAYERS {
+        let mut job = two_layers().bytes();
+        change(&mut job);
+        limits.push(Limit {
+            name: format!("two layers: {name}"),
+            job,
+            number,
+        });
+    }
+    let counts = [
+        ([1, 0], 0),
+        ([1, 1], 0),
+        ([8, 8], 0),
+        ([3, 5], 0),
+        ([5, 3], 0),
+        ([9, 8], 3),
+        ([8, 9], 3),
+        ([1, 9], 3),
+        ([0, 1], 3),
+        ([0, 8], 3),
+        ([16, 0], 3),
+        ([0, 16], 3),
+        ([4, 12], 3),
+        ([12, 4], 3),
+    ];
+    for ([first, second], number) in counts {
+        limits.push(Limit {
+            name: format!("{first} widths of layer 0, {second} of layer 1"),
+            job: layered(first, second).bytes(),
+            number,
+        });
+    }
+    // the shorter table's segment has the last index of the longer one
+    for ([first, second], segment) in [([3, 2], 1), ([2, 3], 0), ([8, 1], 1), ([1, 8], 0)] {
+        let mut plan = layered(first, second);
+        plan.segments[segment].highest = first.max(second) - 1;
+        limits.push(Limit {
+            name: format!("{first} widths of layer 0, {second} of layer 1, segment {segment} beyond its own"),
+            job: plan.bytes(),
+            number: 10,
+        });
+    }
+    limits
+}
+
+/// All jobs at and just beyond a limit, those with a capacitance or a weight where there is no sink, and those of two layers.
 pub fn limits() -> Vec<Limit> {
     let mut all = field_limits();
     all.extend(count_limits());
     all.extend(byte_limits());
     all.extend(stray_sinks());
+    all.extend(layer_limits());
     all
 }
 
@@ -357,45 +520,41 @@ pub enum Freedom {
     All,
 }
 
-/// Tables of the largest figures that keep their order.
-fn largest_tables() -> (Vec<[u32; 2]>, Vec<[u32; 3]>) {
-    let widths = (0..8).map(|i| [100 - i, 93 + i]).collect();
-    let sizes = (0..16).map(|i| [100_000 - i, 99_985 + i, 100_000]).collect();
-    (widths, sizes)
-}
-
-/// A job of 68 places with the largest figures, in a shape, with a weight for every sink.
-pub fn largest_plan(random: &mut Random, shape: Shape, weight: u8, freedom: Freedom) -> Plan {
-    let (widths, sizes) = largest_tables();
+/// A job of 68 places with the largest figures that keep their order, in a shape, with a weight for every sink. The tables are
+/// full; a second layer has every other segment.
+pub fn largest_plan(random: &mut Random, shape: Shape, weight: u8, freedom: Freedom, layers: usize) -> Plan {
     let range = |count: u8| match freedom {
         Freedom::Lowest => [0, 0],
         Freedom::Highest => [count - 1, count - 1],
         Freedom::All => [0, count - 1],
     };
     let stage = range(16);
+    let thick = if layers == 2 { 8 } else { 0 };
     let mut plan = Plan {
-        widths,
-        sizes,
+        widths: (0..8).map(|i| [100 - i, 93 + i]).collect(),
+        thick: (0..thick).map(|i| [100 - 2 * i, 86 + 2 * i]).collect(),
+        sizes: (0..16).map(|i| [100_000 - i, 99_985 + i, 100_000]).collect(),
         stages: vec![[stage[0], stage[0]], stage, stage, stage],
-        segments: Vec::new(),
+        ..Plan::default()
     };
     for segment in 0..64 {
         let parent = parent_byte(random, shape, segment);
-        plan.segments
-            .push(segment_with_sink(parent, 1_000, 100_000, weight, range(8)));
+        let mut planned = segment_with_sink(parent, 1_000, 100_000, weight, range(8));
+        planned.layer = (segment % layers) as u8;
+        plan.segments.push(planned);
     }
     plan
 }
 
-/// All largest jobs: every shape, weights 0, 1 and 255, every freedom.
+/// All largest jobs: one layer and two, every shape, weights 0, 1 and 255, every freedom.
 pub fn largest_plans() -> Vec<(String, Plan)> {
     let mut random = Random::new(11);
     let mut plans = Vec::new();
-    for shape in SHAPES {
+    for (layers, shape) in [1, 2].into_iter().flat_map(|layers| SHAPES.map(|shape| (layers, shape))) {
         for weight in [0, 1, 255] {
             for freedom in [Freedom::Lowest, Freedom::Highest, Freedom::All] {
-                let name = format!("{shape:?} weight {weight} {freedom:?}");
-                plans.push((name, largest_plan(&mut random, shape, weight, freedom)));
+                let name = format!("{layers} layers {shape:?} weight {weight} {freedom:?}");
+                plans.push((name, largest_plan(&mut random, shape, weight, freedom, layers)));
             }
         }
     }

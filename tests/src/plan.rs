@@ -12,12 +12,14 @@ pub struct PlannedSegment {
     pub weight: u8,
     pub lowest: u8,
     pub highest: u8,
+    pub layer: u8,
 }
 
-/// A job's fields: widths as resistance and capacitance, sizes as resistance, gate and output, stages as lowest and highest.
+/// A job's fields: widths of layer 0 and, called thick, of layer 1 as resistance and capacitance, sizes as resistance, gate and output, stages as lowest and highest.
 #[derive(Clone, Debug, Default)]
 pub struct Plan {
     pub widths: Vec<[u32; 2]>,
+    pub thick: Vec<[u32; 2]>,
     pub sizes: Vec<[u32; 3]>,
     pub stages: Vec<[u8; 2]>,
     pub segments: Vec<PlannedSegment>,
@@ -48,11 +50,21 @@ impl Plan {
         }
     }
 
-    /// The job's bytes, with the numbers counted from 0 in each kind.
+    /// How many widths the layer of a segment has.
+    pub fn widths_of(&self, segment: usize) -> usize {
+        match self.segments[segment].layer {
+            0 => self.widths.len(),
+            _ => self.thick.len(),
+        }
+    }
+
+    /// The job's bytes, with the numbers counted from 0 in each kind, those of widths in each layer.
     pub fn bytes(&self) -> Vec<u8> {
         let mut job = Vec::new();
-        for (i, &[resistance, capacitance]) in self.widths.iter().enumerate() {
-            job.extend(record([1, i as u8, 0, 0], [resistance, capacitance, 0]));
+        for (layer, table) in [&self.widths, &self.thick].into_iter().enumerate() {
+            for (i, &[resistance, capacitance]) in table.iter().enumerate() {
+                job.extend(record([1, i as u8, layer as u8, 0], [resistance, capacitance, 0]));
+            }
         }
         for (i, &figures) in self.sizes.iter().enumerate() {
             job.extend(record([2, i as u8, 0, 0], figures));
@@ -61,7 +73,7 @@ impl Plan {
             job.extend(record([3, i as u8, lowest, highest], [0, 0, 0]));
         }
         for (i, segment) in self.segments.iter().enumerate() {
-            let last = u32::from_le_bytes([segment.weight, segment.lowest, segment.highest, 0]);
+            let last = u32::from_le_bytes([segment.weight, segment.lowest, segment.highest, segment.layer]);
             job.extend(record(
                 [4, i as u8, segment.parent, segment.sink],
                 [segment.length, segment.capacitance, last],
@@ -80,7 +92,7 @@ fn record(start: [u8; 4], numbers: [u32; 3]) -> Vec<u8> {
     bytes
 }
 
-/// A segment with a sink.
+/// A segment of layer 0 with a sink.
 pub fn segment_with_sink(parent: u8, length: u32, capacitance: u32, weight: u8, range: [u8; 2]) -> PlannedSegment {
     PlannedSegment {
         parent,
@@ -90,10 +102,11 @@ pub fn segment_with_sink(parent: u8, length: u32, capacitance: u32, weight: u8, 
         weight,
         lowest: range[0],
         highest: range[1],
+        layer: 0,
     }
 }
 
-/// A segment without a sink.
+/// A segment of layer 0 without a sink.
 pub fn segment_without_sink(parent: u8, length: u32, range: [u8; 2]) -> PlannedSegment {
     PlannedSegment {
         parent,
@@ -103,5 +116,6 @@ pub fn segment_without_sink(parent: u8, length: u32, range: [u8; 2]) -> PlannedS
         weight: 0,
         lowest: range[0],
         highest: range[1],
+        layer: 0,
     }
 }

@@ -1,9 +1,9 @@
-//! Questions 1 to 11 of a job, asked one after the other, and the net that a job describes.
+//! Questions 1 to 11 and 24 of a job, asked one after the other, and the net that a job describes.
 
 /// The bytes of one record.
 pub const RECORD: usize = 16;
 
-/// A row of the table of widths, for each unit of length.
+/// A row of the table of a layer's widths, for each unit of length.
 pub struct Width {
     pub resistance: u64,
     pub capacitance: u64,
@@ -22,9 +22,10 @@ pub struct Sink {
     pub weight: u64,
 }
 
-/// A segment of wire: the segment it hangs on, or the source, its length and its sink.
+/// A segment of wire: the segment it hangs on, or the source, the layer it uses, its length and its sink.
 pub struct Segment {
     pub parent: Option<usize>,
+    pub layer: usize,
     pub length: u64,
     pub sink: Option<Sink>,
 }
@@ -36,9 +37,9 @@ pub struct Range {
     pub highest: u8,
 }
 
-/// What a job describes; `ranges` has one entry for each place, stages first.
+/// What a job describes; `widths` has the table of each layer, `ranges` one entry for each place, stages first.
 pub struct Net {
-    pub widths: Vec<Width>,
+    pub widths: [Vec<Width>; 2],
     pub sizes: Vec<Size>,
     pub stages: usize,
     pub segments: Vec<Segment>,
@@ -97,30 +98,57 @@ fn question_2(job: &[u8]) -> bool {
     kinds.iter().all(|kind| (1..=4).contains(kind)) && kinds.windows(2).all(|pair| pair[0] <= pair[1])
 }
 
-/// Question 3: is each kind's count in its range?
-fn question_3(job: &[u8]) -> bool {
-    [(1, 8), (2, 16), (3, 4), (4, 64)]
-        .iter()
-        .all(|&(kind, most)| (1..=most).contains(&of_kind(job, kind).len()))
+/// The width records of one layer, which byte 2 names, in their order.
+fn of_layer(job: &[u8], layer: u8) -> Vec<&[u8]> {
+    of_kind(job, 1).into_iter().filter(|record| record[2] == layer).collect()
 }
 
-/// Question 4: do numbers count from 0 in each kind?
-fn question_4(job: &[u8]) -> bool {
-    (1..=4).all(|kind| {
-        of_kind(job, kind)
+/// The ways in which a job fails question 24: a layer byte of a width or of a segment is above 1, the layers of the widths fall, or
+/// a segment names layer 1 and it is empty.
+pub fn layer_faults(job: &[u8]) -> [bool; 4] {
+    let widths: Vec<u8> = of_kind(job, 1).iter().map(|record| record[2]).collect();
+    let segments: Vec<u8> = of_kind(job, 4).iter().map(|record| record[15]).collect();
+    [
+        widths.iter().any(|&layer| layer > 1),
+        segments.iter().any(|&layer| layer > 1),
+        widths.windows(2).any(|pair| pair[0] > pair[1]),
+        segments.contains(&1) && !widths.contains(&1),
+    ]
+}
+
+/// Question 24: is there none of these?
+fn question_24(job: &[u8]) -> bool {
+    layer_faults(job) == [false; 4]
+}
+
+/// Question 3: is each kind's count in its range, of widths up to eight in each layer and at least one in layer 0?
+fn question_3(job: &[u8]) -> bool {
+    (1..=8).contains(&of_layer(job, 0).len())
+        && of_layer(job, 1).len() <= 8
+        && [(2, 16), (3, 4), (4, 64)]
             .iter()
-            .enumerate()
-            .all(|(i, record)| usize::from(record[1]) == i)
-    })
+            .all(|&(kind, most)| (1..=most).contains(&of_kind(job, kind).len()))
+}
+
+/// The lists of records that are numbered from 0: the widths of each layer, and each other kind.
+fn numbered(job: &[u8]) -> Vec<Vec<&[u8]>> {
+    let layers = (0..=1).map(|layer| of_layer(job, layer));
+    layers.chain((2..=4).map(|kind| of_kind(job, kind))).collect()
+}
+
+/// Question 4: do numbers count from 0 in each kind, those of widths in each layer?
+fn question_4(job: &[u8]) -> bool {
+    let counts = |list: &Vec<&[u8]>| list.iter().enumerate().all(|(i, record)| usize::from(record[1]) == i);
+    numbered(job).iter().all(counts)
 }
 
 /// The bytes of a record that the format names, the kind and the number included.
 fn named_bytes(kind: u8) -> &'static [usize] {
     match kind {
-        1 => &[0, 1, 4, 5, 6, 7, 8, 9, 10, 11],
+        1 => &[0, 1, 2, 4, 5, 6, 7, 8, 9, 10, 11],
         2 => &[0, 1, 4, 5, 6, 7, 8, 9, 10, 11, 12, 13, 14, 15],
         3 => &[0, 1, 2, 3],
-        _ => &[0, 1, 2, 3, 4, 5, 6, 7, 8, 9, 10, 11, 12, 13, 14],
+        _ => &[0, 1, 2, 3, 4, 5, 6, 7, 8, 9, 10, 11, 12, 13, 14, 15],
     }
 }
 
@@ -146,10 +174,12 @@ fn question_6(job: &[u8]) -> bool {
     of_kind(job, 1).iter().all(width_fits) && of_kind(job, 2).iter().all(size_fits)
 }
 
-/// Question 7: in each table, does resistance strictly fall and the capacitance of width or gate strictly rise?
+/// Question 7: in each table, of a layer or of the sizes, does resistance strictly fall and the capacitance of width or gate strictly rise?
 fn question_7(job: &[u8]) -> bool {
     let ordered = |pair: &[&[u8]]| number(pair[0], 4) > number(pair[1], 4) && number(pair[0], 8) < number(pair[1], 8);
-    of_kind(job, 1).windows(2).all(ordered) && of_kind(job, 2).windows(2).all(ordered)
+    [of_layer(job, 0), of_layer(job, 1), of_kind(job, 2)]
+        .iter()
+        .all(|table| table.windows(2).all(ordered))
 }
 
 /// Question 8: is every stage's lowest at most its highest, below the count of sizes, both equal for stage 0?
@@ -167,16 +197,15 @@ fn question_9(job: &[u8]) -> bool {
     of_kind(job, 4).iter().all(|record| record[2] <= record[1])
 }
 
-/// Question 10: are segment fields in range, nothing hung where there is no sink, and the range within the widths?
+/// Question 10: are segment fields in range, nothing hung where there is no sink, and the range within the widths of its layer?
 fn question_10(job: &[u8]) -> bool {
-    let widths = of_kind(job, 1).len();
     of_kind(job, 4).iter().all(|record| {
         record[3] <= 1
             && (1..=1_000).contains(&number(record, 4))
             && (0..=100_000).contains(&number(record, 8))
             && !has_stray_sink(record)
             && record[13] <= record[14]
-            && usize::from(record[14]) < widths
+            && usize::from(record[14]) < of_layer(job, record[15]).len()
     })
 }
 
@@ -191,36 +220,36 @@ fn question_11(job: &[u8]) -> bool {
     segments.iter().all(|segment| has_branch(segment) || segment[3] == 1)
 }
 
-/// Whether a capacitance or a weight stands at a segment whose sink byte is 0, in a job that passes 1 to 4 and has its unnamed
-/// bytes zero: question 10 alone forbids it.
+/// Whether a capacitance or a weight stands at a segment whose sink byte is 0, in a job that passes 1, 2, 24, 3 and 4 and has its
+/// unnamed bytes zero: question 10 alone forbids it.
 pub fn stray_sink_alone(job: &[u8]) -> bool {
-    [question_1, question_2, question_3, question_4, question_5]
+    [question_1, question_2, question_24, question_3, question_4, question_5]
         .iter()
         .all(|question| question(job))
         && of_kind(job, 4).into_iter().any(has_stray_sink)
 }
 
-/// The number of the first question of 1 to 11 whose answer is no, or 0.
+/// A question of a job, and whether its answer is yes.
+type Question = fn(&[u8]) -> bool;
+
+/// The number of the first question of a job whose answer is no, or 0: 24 is asked after 2 and before 3.
 pub fn first_no(job: &[u8]) -> u64 {
-    let questions: [fn(&[u8]) -> bool; 11] = [
-        question_1,
-        question_2,
-        question_3,
-        question_4,
-        question_5,
-        question_6,
-        question_7,
-        question_8,
-        question_9,
-        question_10,
-        question_11,
+    let questions: [(u64, Question); 12] = [
+        (1, question_1),
+        (2, question_2),
+        (24, question_24),
+        (3, question_3),
+        (4, question_4),
+        (5, question_5),
+        (6, question_6),
+        (7, question_7),
+        (8, question_8),
+        (9, question_9),
+        (10, question_10),
+        (11, question_11),
     ];
-    for (i, question) in questions.iter().enumerate() {
-        if !question(job) {
-            return i as u64 + 1;
-        }
-    }
-    0
+    let failed = questions.iter().find(|(_, question)| !question(job));
+    failed.map_or(0, |&(number, _)| number)
 }
 
 /// One segment out of its record.
@@ -231,6 +260,7 @@ fn read_segment(record: &[u8]) -> Segment {
     };
     Segment {
         parent: usize::from(record[2]).checked_sub(1),
+        layer: usize::from(record[15]),
         length: number(record, 4),
         sink: if record[3] == 1 { Some(sink) } else { None },
     }
@@ -282,7 +312,7 @@ pub fn read(job: &[u8]) -> Result<Net, u64> {
         .chain(of_kind(job, 4).iter().map(segment_range))
         .collect();
     Ok(Net {
-        widths: of_kind(job, 1).iter().map(width).collect(),
+        widths: [0, 1].map(|layer| of_layer(job, layer).iter().map(width).collect()),
         sizes: of_kind(job, 2).iter().map(size).collect(),
         stages: of_kind(job, 3).len(),
         segments,

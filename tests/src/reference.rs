@@ -103,7 +103,7 @@ fn load_under(net: &Net, capacitance: &[u128], segment: usize) -> u128 {
 /// Resistance, capacitance and load under each segment, and the load of the whole tree, for one sizing.
 fn wires(net: &Net, sizing: &[u8]) -> Wires {
     let count = net.segments.len();
-    let row = |segment: usize| &net.widths[usize::from(sizing[net.stages + segment])];
+    let row = |segment: usize| &net.widths[net.segments[segment].layer][usize::from(sizing[net.stages + segment])];
     let resistance: Vec<u128> = (0..count)
         .map(|s| u128::from(row(s).resistance * net.segments[s].length))
         .collect();

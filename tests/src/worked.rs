@@ -9,6 +9,7 @@ pub fn j1() -> Plan {
         sizes: vec![[10, 3, 1]],
         stages: vec![[0, 0]],
         segments: vec![segment_with_sink(0, 1, 5, 1, [0, 1])],
+        ..Plan::default()
     }
 }
 
@@ -34,6 +35,7 @@ pub fn j4() -> Plan {
         sizes: vec![[10, 3, 1], [5, 7, 1]],
         stages: vec![[0, 0], [0, 1]],
         segments: vec![segment_with_sink(0, 1, 4, 1, [0, 1])],
+        ..Plan::default()
     }
 }
 
@@ -48,6 +50,7 @@ pub fn j5() -> Plan {
             segment_with_sink(1, 2, 1, 1, [0, 0]),
             segment_with_sink(1, 3, 2, 2, [0, 0]),
         ],
+        ..Plan::default()
     }
 }
 
@@ -58,6 +61,7 @@ pub fn weightless(segments: usize) -> Plan {
         sizes: vec![[10, 3, 1]],
         stages: vec![[0, 0]],
         segments: vec![segment_with_sink(0, 1, 5, 0, [0, 3]); segments],
+        ..Plan::default()
     }
 }
 
@@ -71,7 +75,7 @@ pub fn refused() -> Vec<(Vec<u8>, u64)> {
     let mut nine_widths = j1();
     nine_widths.widths = (0..9).map(|i| [20 - i, 1 + i]).collect();
     let mut stray_and_zero = j1().bytes();
-    stray_and_zero[2] = 1;
+    stray_and_zero[3] = 1;
     stray_and_zero[4] = 0;
     let mut equal = j1();
     equal.widths[1][0] = equal.widths[0][0];
@@ -116,5 +120,6 @@ pub fn clock() -> Plan {
         ],
         stages: vec![[0, 0], [0, 4], [0, 4]],
         segments: (0..63).map(clock_segment).collect(),
+        ..Plan::default()
     }
 }

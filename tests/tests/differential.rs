@@ -2,8 +2,8 @@
 #![cfg(feature = "library")]
 
 use numlejka_tests::batches::{
-    Counts, MOST_ALLOWED, ONE_BEST, ONE_INDEX, OUTPUTS, STRAY_SINK, TIE, count, damaged_calls, large_calls, largest_calls,
-    length_calls, limit_calls, room_calls, small_calls, worked_calls,
+    BOTH_LAYERS, Counts, LAYER_FAULTS, MOST_ALLOWED, ONE_BEST, ONE_INDEX, OUTPUTS, STRAY_SINK, TIE, count, damaged_calls,
+    large_calls, largest_calls, length_calls, limit_calls, room_calls, small_calls, worked_calls,
 };
 use numlejka_tests::calls::{Call, expected, hex};
 use numlejka_tests::interface::run;
@@ -13,7 +13,7 @@ use numlejka_tests::random::{Random, SEED};
 const SMALL_JOBS: usize = 12_000;
 
 /// How many damaged jobs are tried.
-const DAMAGED_JOBS: usize = 24_000;
+const DAMAGED_JOBS: usize = 32_000;
 
 /// How many jobs of many segments are tried.
 const LARGE_JOBS: usize = 150;
@@ -45,12 +45,12 @@ fn compare_all(name: &str, calls: impl Iterator<Item = Call>) -> Counts {
     counts
 }
 
-/// Small random jobs over all four operations, among which measures with an output of stage 0 before another stage, and refines
-/// of each kind of place, come thousands of times.
+/// Small random jobs over all four operations, among which measures with an output of stage 0 before another stage, refines of
+/// each kind of place, and jobs with segments on both layers, come thousands of times.
 fn compare_small(name: &str, mut random: Random) {
     let calls = (0..SMALL_JOBS).flat_map(|_| small_calls(&mut random, MOST_ALLOWED));
     let counts = compare_all(name, calls);
-    for kind in [OUTPUTS, ONE_INDEX, ONE_BEST, TIE] {
+    for kind in [OUTPUTS, ONE_INDEX, ONE_BEST, TIE, BOTH_LAYERS] {
         assert!(counts[&(kind, 0)] >= 2_000, "{kind}");
     }
 }
@@ -67,7 +67,8 @@ fn more_small_jobs() {
     compare_small("more small jobs", Random::new(22));
 }
 
-/// Jobs with one to three damages over all four operations; a stray sink alone comes with each of 6 to 10, and no other number.
+/// Jobs with one to three damages over all four operations; a stray sink alone comes with each of 6 to 10, and no other number;
+/// 24 comes in each of its ways alone.
 #[test]
 fn damaged_jobs() {
     let mut random = Random::new(23);
@@ -77,6 +78,9 @@ fn damaged_jobs() {
     assert_eq!(stray, [6, 7, 8, 9, 10]);
     for number in stray {
         assert!(counts[&(STRAY_SINK, number)] >= 100, "{number}");
+    }
+    for way in LAYER_FAULTS {
+        assert!(counts[&(way, 24)] >= 300, "{way}");
     }
 }
 

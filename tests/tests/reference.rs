@@ -1,7 +1,8 @@
 //! Tests of the reference itself: the worked jobs, the two ways to the bounds, the limits, and what the generators reach.
 
 use numlejka_tests::batches::{
-    Counts, MOST_ALLOWED, STRAY_SINK, count_expected, damaged_calls, limit_calls, room_calls, small_calls, worked_calls,
+    Counts, LAYER_FAULTS, MOST_ALLOWED, STRAY_SINK, count_expected, damaged_calls, limit_calls, room_calls, small_calls,
+    worked_calls,
 };
 use numlejka_tests::calls::Call;
 use numlejka_tests::generate::{allowed_sizing, large_plan, marked, small_plan};
@@ -16,7 +17,7 @@ use numlejka_tests::reference::{
 use numlejka_tests::reference_bounds::{SWEPT, least_between, swept_bounds};
 use numlejka_tests::worked::{clock, j1, j2, j3, j4, j5, refused, weightless};
 
-/// The net of a plan that passes questions 1 to 11.
+/// The net of a plan that passes its questions.
 fn net_of(plan: &Plan) -> Net {
     read(&plan.bytes()).expect("a valid job")
 }
@@ -103,6 +104,7 @@ fn each_load_is_counted_once() {
             segment_with_sink(0, 1, 100, 1, [0, 1]),
             segment_with_sink(1, 3, 500, 0, [0, 1]),
         ],
+        ..Plan::default()
     };
     let load = |sizing: &[u8]| measure(&plan.bytes(), sizing).load;
     assert_eq!(load(&[0, 1, 2, 0, 0, 1]), 9_667);
@@ -118,6 +120,7 @@ fn an_index_between_the_ends_may_be_worse() {
         sizes: vec![[1, 1, 1]],
         stages: vec![[0, 0]],
         segments: vec![segment_with_sink(0, 1, 0, 1, [0, 2])],
+        ..Plan::default()
     };
     assert_eq!(refine(&plan.bytes(), &[0, 1], 1).tie, tie(0, 2, 17));
     assert_eq!([0, 1, 2].map(|index| delay(&plan, &[0, index])), [17, 18, 17]);
@@ -308,7 +311,8 @@ fn the_clock_net_is_answered() {
     check_theory(&net, &bounds, &found);
 }
 
-/// The generated calls reach every number of every operation, and no other; a stray sink alone each of 6 to 10, and no other.
+/// The generated calls reach every number of every operation, and no other; a stray sink alone each of 6 to 10, and no other;
+/// 24 in each of its ways.
 #[test]
 fn every_number_is_reached() {
     let mut counts = Counts::new();
@@ -326,11 +330,14 @@ fn every_number_is_reached() {
         println!("{operation} {number}: {times}");
     }
     let reached = |operation: &str| -> Vec<u64> { counts.keys().filter(|key| key.0 == operation).map(|key| key.1).collect() };
-    assert_eq!(reached("size"), (0..=12).chain([14]).collect::<Vec<u64>>());
-    assert_eq!(reached("measure"), (0..=11).chain([15, 16]).collect::<Vec<u64>>());
-    assert_eq!(reached("refine"), (0..=11).chain([15, 16, 17]).collect::<Vec<u64>>());
+    assert_eq!(reached("size"), (0..=12).chain([14, 24]).collect::<Vec<u64>>());
+    assert_eq!(reached("measure"), (0..=11).chain([15, 16, 24]).collect::<Vec<u64>>());
+    assert_eq!(reached("refine"), (0..=11).chain([15, 16, 17, 24]).collect::<Vec<u64>>());
     assert_eq!(reached("choose"), [0, 1, 2]);
     assert_eq!(reached(STRAY_SINK), [6, 7, 8, 9, 10]);
+    for way in LAYER_FAULTS {
+        assert!(counts.keys().any(|key| key.0 == way), "{way}");
+    }
 }
 
 /// A call that is printed can be run again.

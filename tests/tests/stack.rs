@@ -76,6 +76,7 @@ fn deepest() -> Plan {
         sizes: vec![[2, 1, 1], [1, 2, 1]],
         stages: (0..4).map(range).collect(),
         segments: (0..64).map(segment).collect(),
+        ..Plan::default()
     }
 }
 

@@ -6,6 +6,7 @@ use native.Mathlib.Numerals.{add-one}
 use native.Mathlib.Omega.{arith}
 use Rattle.lattice.specs.Lists.{at, sum}
 use Rattle.net.specs.declared.Counts.{Counts}
+use Rattle.net.specs.Job.{widthsOf, segmentLayer}
 use Rattle.net.specs.Net.{Net, netBy}
 use Rattle.net.specs.Delay.{stageLoad, stageDelay}
 use Rattle.net.specs.Segments.{stageCharge}
@@ -25,7 +26,7 @@ module _ {c : Counts} {job x : List ℕ} (r : Ready c job x) where
   pub size-held : (s : ℕ) → s < c .stages → at x s < c .sizes
   size-held s l = omega (arith, r .checked .sized s l, r .inRanges .high s (omega arith))
 
-  pub width-held : (i : ℕ) → i < c .segments → at x (c .stages + i) < c .widths
+  pub width-held : (i : ℕ) → i < c .segments → at x (c .stages + i) < widthsOf c (segmentLayer c job i)
   width-held i l = omega (arith, r .checked .wired i l, r .inRanges .high (c .stages + i) (omega arith))
 
   -- a stage of the size k, with the output capacitance o, that drives the load d

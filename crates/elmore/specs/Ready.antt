@@ -1,4 +1,4 @@
--- What the delay is computed from: a job that passed questions 1 to 10, and a sizing in its ranges.
+-- What the delay is computed from: a job that passed the questions before 11, and a sizing in its ranges.
 use mathlib.Core.List.{List}
 use Prim.Native.Nat.{ℕ}
 use Rattle.net.specs.declared.Counts.{Counts}

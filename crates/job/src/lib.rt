@@ -6,7 +6,7 @@ use text::widened;
 ghost use mathlib.Core.Path.{_≡_};
 ghost use Prim.Native.Nat.{_+_, _^_, _<_, _≤_};
 ghost use lib.ListN.{length};
-ghost use Rattle.net.specs.Job.{byte, word, widthAt, sizeAt, placeAt, segmentAt, placesBy};
+ghost use Rattle.net.specs.Job.{byte, word, widthAt, widthsOf, firstRow, sizeAt, placeAt, segmentAt, segmentLayer, placesBy};
 ghost use Rattle.net.specs.Net.{netBy};
 ghost use Rattle.net.specs.Checked.{Held};
 ghost use Rattle.job.specs.WireAt.{WireAt};
@@ -101,19 +101,54 @@ pub fn sink(job: &[u8], counts: Counts, i: usize) -> Capacitance
     Capacitance(segment_word(job, counts, i, 8))
 }
 
-// Segment i's wire at the width k.
-pub fn wire_at(job: &[u8], counts: Counts, i: usize, k: usize) -> Wire
+// How many widths a layer has.
+pub fn widths_of(counts: Counts, layer: usize) -> usize
+    requires { ⌜ counts .layer0 ≤ counts .widths ⌝ }
+    ensures { λ r. ⌜ r ≡ widthsOf counts layer ⌝ }
+{
+    if layer == 0 {
+        return counts.layer0;
+    }
+    counts.widths - counts.layer0
+}
+
+// Where among the widths the table of segment i's layer starts.
+pub fn first_row(job: &[u8], counts: Counts, i: usize) -> usize
     requires { ⌜ Held counts (now job) ⌝ }
-    requires { ⌜ (i < counts .segments) × (k < counts .widths) ⌝ }
+    requires { ⌜ i < counts .segments ⌝ }
+    ensures { λ r. ⌜ r ≡ firstRow counts (segmentLayer counts (now (job .entry)) i) ⌝ }
+{
+    let layer = job[16 * (counts.widths + counts.sizes + (counts.stages + i)) + 15];
+    if layer == 0 {
+        return 0;
+    }
+    counts.layer0
+}
+
+// Segment i's wire at the width k, where the table of its layer starts at `rows`.
+pub fn wire_from(job: &[u8], counts: Counts, rows: usize, i: usize, k: usize) -> Wire
+    requires { ⌜ Held counts (now job) ⌝ }
+    requires { ⌜ rows ≡ firstRow counts (segmentLayer counts (now job) i) ⌝ }
+    requires { ⌜ (i < counts .segments) × (k < widthsOf counts (segmentLayer counts (now job) i)) ⌝ }
     ensures { λ r. ⌜ WireAt (netBy counts (now (job .entry))) i k r ⌝ }
 {
-    let resistance = row_word(job, counts, k, 4);
-    let capacitance = row_word(job, counts, k, 8);
+    let row = rows + k;
+    let resistance = row_word(job, counts, row, 4);
+    let capacitance = row_word(job, counts, row, 8);
     let length = segment_word(job, counts, i, 4);
     Wire {
         resistance: quantity::wire_resistance(Resistance(resistance), length),
         capacitance: quantity::wire_capacitance(Capacitance(capacitance), length),
     }
+}
+
+// The same, where the layer is read for this one wire.
+pub fn wire_at(job: &[u8], counts: Counts, i: usize, k: usize) -> Wire
+    requires { ⌜ Held counts (now job) ⌝ }
+    requires { ⌜ (i < counts .segments) × (k < widthsOf counts (segmentLayer counts (now job) i)) ⌝ }
+    ensures { λ r. ⌜ WireAt (netBy counts (now (job .entry))) i k r ⌝ }
+{
+    wire_from(job, counts, first_row(job, counts, i), i, k)
 }
 
 // The resistance of a driver of the size k.

@@ -1,4 +1,5 @@
--- What lean, wide, the least delay and the bounds of a job are: the theory of the crate `lattice`, said of every job that passes questions 1 to 11.
+-- What lean, wide, the least delay and the bounds of a job are: the theory of the crate `lattice`, said of every job that passes its
+-- questions.
 use mathlib.Core.Path.{_≡_}
 use mathlib.Core.Logic.{_↔_}
 use mathlib.Core.List.{List}
@@ -19,7 +20,7 @@ use Rattle.net.specs.Questions.{refusal}
 use Rattle.net.proofs.Dominance.{allowed-lattice}
 use Rattle.net.proofs.Questions.{lowestSizing, checked, checked-allowed, checked-submodular, job-allowed, job-submodular}
 
--- `bounds-never-cross`, below, from the facts of questions 1 to 10: what the code has at hand where it needs it.
+-- `bounds-never-cross`, below, from the facts of `Checked`: what the code has at hand where it needs it.
 module _ {c : Counts} {b : List ℕ} (k : Checked c b) where
   pub checked-never-cross : (p : ℕ) → p < places (netBy c b) → at (lowerBound (netBy c b)) p ≤ at (upperBound (netBy c b)) p
   unfolding within

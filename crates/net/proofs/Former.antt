@@ -11,12 +11,12 @@ use lib.Dec.{T, leb, le→leb}
 use lib.ListN.{set}
 use Rattle.lattice.specs.Lists.{at, every}
 use Rattle.lattice.proofs.ListLaws.{is-true, at-every, every-or}
-use Rattle.lattice.proofs.Every.{every-and, every-fails}
+use Rattle.lattice.proofs.Every.{every-fails}
 use Rattle.net.specs.declared.Counts.{Counts}
-use Rattle.net.specs.Job.{count, countsOf, widthAt, sizeAt, stageAt, segmentAt, segmentSink, sinkCapacitance, sinkWeight}
+use Rattle.net.specs.Job.{countIf, countsOf, widthAt, widthsOf, firstRow, sizeAt, stageAt, segmentSink, sinkCapacitance, sinkWeight}
 use Rattle.net.specs.Net.{places, netOf}
 use Rattle.net.specs.Sizings.{lowerBound, upperBound, room}
-use Rattle.net.specs.Questions.{question1, question2, question3, question4, zeros, question5, question6, question7, question8, question9, sinkOrZero, question10, Question, ask, firstNo, jobQuestions, refusal}
+use Rattle.net.specs.Questions.{question1, question2, question24, question3, question4, zeros, question5, question6, question7, question8, question9, sinkOrZero, question10, Question, ask, firstNo, jobQuestions, refusal}
 use Rattle.net.specs.Answers.{replyLength, sizeNumber, littleEndian}
 use Rattle.net.specs.Starred.{J1}
 use Rattle.net.proofs.Answers.{firstNo-yes, firstNo-no, job-passes, job-fails}
@@ -53,19 +53,19 @@ module _ (c : Counts) (b : List ℕ) where
   -- The former 5. Are all unnamed bytes zero, and the sink capacitance and weight of every segment whose sink byte is 0?
   unfoldable pub formerQuestion5 : Bool
   formerQuestion5 =
-      every (c .widths) (λ k. zeros c b (widthAt k + 2) 2 && zeros c b (widthAt k + 12) 4)
+      every (c .widths) (λ k. zeros c b (widthAt k + 3) 1 && zeros c b (widthAt k + 12) 4)
       && (every (c .sizes) (λ k. zeros c b (sizeAt c k + 2) 2)
       && (every (c .stages) (λ s. zeros c b (stageAt c s + 4) 12)
-      && every (c .segments) (λ i. zeros c b (segmentAt c i + 15) 1 && sinkOrZero c b i)))
+      && every (c .segments) (sinkOrZero c b)))
 
   -- it is question 5 and the clause
   clause : formerQuestion5 ≡ question5 c b && every (c .segments) (sinkOrZero c b)
   unfolding formerQuestion5 question5
-  clause = rw (every-and (c .segments) (λ i. zeros c b (segmentAt c i + 15) 1) (sinkOrZero c b), and-assoc, and-assoc, and-assoc)
+  clause = rw (and-assoc, and-assoc)
 
--- The questions of a job as they were: the former question 5 in the place of the fifth.
+-- The questions of a job as they were: the former question 5 in the place of question 5, the sixth.
 unfoldable pub formerJobQuestions : List ℕ → List Question
-formerJobQuestions b = set (jobQuestions b) 4 (ask 5 (formerQuestion5 (countsOf b) b))
+formerJobQuestions b = set (jobQuestions b) 5 (ask 5 (formerQuestion5 (countsOf b) b))
 
 -- A capacitance or a weight at a segment whose sink byte is 0.
 pub record StraySink (c : Counts) (b : List ℕ) : Type 0 where
@@ -74,10 +74,11 @@ pub record StraySink (c : Counts) (b : List ℕ) : Type 0 where
   pub sinkless : segmentSink c b segment ≡ 0
   pub figure : (0 < sinkCapacitance c b segment) ⊎ (0 < sinkWeight c b segment)
 
--- A job that failed the former question 5 for this alone: it passes 1 to 4, and its unnamed bytes are zero.
+-- A job that failed the former question 5 for this alone: it passes 1, 2, 24, 3 and 4, and its unnamed bytes are zero.
 pub record StraySinkAlone (job : List ℕ) : Type 0 where
   pub one : T (question1 job)
   pub two : T (question2 job)
+  pub layers : T (question24 (countsOf job) job)
   pub three : T (question3 (countsOf job))
   pub four : T (question4 (countsOf job) job)
   pub unnamed : UnnamedZero (countsOf job) job
@@ -92,11 +93,11 @@ abbrev strayJobs : List (List ℕ)
 strayJobs = set sinkless 4 0 ∷ set sinkless 20 4 ∷ set sinkless 50 1 ∷ set sinkless 66 1 ∷ sinkless ∷ []
 
 pub are-6-to-10 : map refusal strayJobs ≡ 6 ∷ 7 ∷ 8 ∷ 9 ∷ 10 ∷ []
-unfolding every count countsOf question1 question2 question3 question4 zeros question5 question6 question7 question8 question9 sinkOrZero question10 firstNo jobQuestions refusal littleEndian
+unfolding every countIf countsOf widthsOf firstRow question1 question2 question24 question3 question4 zeros question5 question6 question7 question8 question9 sinkOrZero question10 firstNo jobQuestions refusal littleEndian
 are-6-to-10 = refl
 
 pub all-were-5 : map (λ job. firstNo (formerJobQuestions job)) strayJobs ≡ 5 ∷ 5 ∷ 5 ∷ 5 ∷ 5 ∷ []
-unfolding every count countsOf question1 question2 question3 question4 zeros sinkOrZero formerQuestion5 firstNo jobQuestions formerJobQuestions littleEndian
+unfolding every countIf countsOf widthsOf firstRow question1 question2 question24 question3 question4 zeros sinkOrZero formerQuestion5 firstNo jobQuestions formerJobQuestions littleEndian
 all-were-5 = refl
 
 module _ {c : Counts} {b : List ℕ} where
@@ -127,17 +128,19 @@ module _ {c : Counts} {b : List ℕ} where
       go (yes s) (yes d) (no e) = record { segment = i; held = h; sinkless = s; figure = inr (omega (arith, e)) }
       go (yes s) (yes d) (yes e) = absurd (n (rw (s, d, e) tt))
 
--- a clause of question 5 that holds wherever 1 to 5 pass changes no number
-same-first : (p q r s t u : Bool) (qs : List Question) → (T p → T q → T r → T s → T t → T u)
-    → firstNo (ask 1 p ∷ ask 2 q ∷ ask 3 r ∷ ask 4 s ∷ ask 5 t ∷ qs) ≡ firstNo (ask 1 p ∷ ask 2 q ∷ ask 3 r ∷ ask 4 s ∷ ask 5 (t && u) ∷ qs)
+-- a clause of question 5 that holds wherever the questions up to 5 pass changes no number
+same-first : (p q z r s t u : Bool) (qs : List Question) → (T p → T q → T z → T r → T s → T t → T u)
+    → firstNo (ask 1 p ∷ ask 2 q ∷ ask 24 z ∷ ask 3 r ∷ ask 4 s ∷ ask 5 t ∷ qs)
+    ≡ firstNo (ask 1 p ∷ ask 2 q ∷ ask 24 z ∷ ask 3 r ∷ ask 4 s ∷ ask 5 (t && u) ∷ qs)
 unfolding firstNo
-same-first false q r s t u qs h = refl
-same-first true false r s t u qs h = refl
-same-first true true false s t u qs h = refl
-same-first true true true false t u qs h = refl
-same-first true true true true false u qs h = refl
-same-first true true true true true true qs h = refl
-same-first true true true true true false qs h = absurd (h tt tt tt tt tt)
+same-first false q z r s t u qs h = refl
+same-first true false z r s t u qs h = refl
+same-first true true false r s t u qs h = refl
+same-first true true true false s t u qs h = refl
+same-first true true true true false t u qs h = refl
+same-first true true true true true false u qs h = refl
+same-first true true true true true true true qs h = refl
+same-first true true true true true true false qs h = absurd (h tt tt tt tt tt tt)
 
 module _ (job : List ℕ) where
   abbrev c : Counts
@@ -151,9 +154,9 @@ module _ (job : List ℕ) where
   sixToNineOr10 = firstNo (sixToNine ++ ask 10 false ∷ [])
 
   past-4 : StraySinkAlone job → (qs : List Question)
-      → firstNo (ask 1 (question1 job) ∷ ask 2 (question2 job) ∷ ask 3 (question3 c) ∷ ask 4 (question4 c job) ∷ qs) ≡ firstNo qs
+      → firstNo (ask 1 (question1 job) ∷ ask 2 (question2 job) ∷ ask 24 (question24 c job) ∷ ask 3 (question3 c) ∷ ask 4 (question4 c job) ∷ qs) ≡ firstNo qs
   unfolding firstNo
-  past-4 a qs = rw (is-true (question1 job) (a .one), is-true (question2 job) (a .two), is-true (question3 c) (a .three), is-true (question4 c job) (a .four))
+  past-4 a qs = rw (is-true (question1 job) (a .one), is-true (question2 job) (a .two), is-true (question24 c job) (a .layers), is-true (question3 c) (a .three), is-true (question4 c job) (a .four))
 
   at-10 : (t : Bool) (qs : List Question) → t ≡ false → firstNo (sixToNine ++ ask 10 t ∷ qs) ≡ sixToNineOr10
   unfolding sixToNineOr10 firstNo
@@ -174,11 +177,11 @@ module _ (job : List ℕ) where
     -- Every other job gets the number that it got.
     pub others-same : (StraySinkAlone job → ⊥) → firstNo (jobQuestions job ++ own) ≡ firstNo (formerJobQuestions job ++ own)
     unfolding jobQuestions formerJobQuestions
-    others-same n = rw (clause c job) (same-first _ _ _ _ _ _ _ holds)
+    others-same n = rw (clause c job) (same-first _ _ _ _ _ _ _ _ holds)
       where
-        holds : T (question1 job) → T (question2 job) → T (question3 c) → T (question4 c job) → T (question5 c job) → T (every (c .segments) (sinkOrZero c job))
-        holds one two three four five =
+        holds : T (question1 job) → T (question2 job) → T (question24 c job) → T (question3 c) → T (question4 c job) → T (question5 c job) → T (every (c .segments) (sinkOrZero c job))
+        holds one two layers three four five =
             ⊎-elim
             (λ all. at-every (c .segments) (sinkOrZero c job) all)
-            (λ w. absurd (n record { one = one; two = two; three = three; four = four; unnamed = unnamed-only c job .0 five; stray = stray-found (w .0) (w .1) (w .2) }))
+            (λ w. absurd (n record { one = one; two = two; layers = layers; three = three; four = four; unnamed = unnamed-only c job .0 five; stray = stray-found (w .0) (w .1) (w .2) }))
             (every-or (c .segments) (sinkOrZero c job))

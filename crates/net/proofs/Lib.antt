@@ -14,4 +14,5 @@ pub mod Demands
 pub mod Promises
 pub mod Unnamed
 pub mod Former
+pub mod OneLayer
 pub mod Starred

@@ -2,14 +2,14 @@
 -- tells P alone; and that the number 13 is not used.
 use mathlib.Core.Path.{_≡_, _∙_, refl, sym, ap}
 use mathlib.Core.Logic.{_⊎_, inl, inr, ⊎-elim}
-use mathlib.Core.Bool.{Bool, true, false, cond}
+use mathlib.Core.Bool.{Bool, true, false, cond, _||_}
 use mathlib.Core.List.{List, [], _∷_, _++_, flatMap}
 use Prim.Native.Nat.{ℕ, zero, suc, _+_, _*_, _/_, _^_, _≤_, _<_}
 use native.Mathlib.Nat.{pow-suc}
 use native.Mathlib.Decide.{ℕ-discrete}
 use native.Mathlib.Omega.{arith}
 use borrow.Author.Tests.{ne-eqb, leb-true}
-use lib.Dec.{leb, lit≤}
+use lib.Dec.{T, leb, ltb, ltb→lt, lit≤}
 use lib.ListN.{length, take, drop, replicate, length-append, length-drop, length-replicate, getD-replicate, List·getD-append}
 use lib.Seq.{take-at, drop-at, take-append-le, getD-append-add}
 use Rattle.lattice.specs.Side.{below, above}
@@ -17,7 +17,7 @@ use Rattle.lattice.specs.Lists.{at, from}
 use Rattle.lattice.specs.Space.{within}
 use Rattle.lattice.specs.Least.{leasts, leastEnvelope}
 use Rattle.lattice.specs.Refine.{fixed, bound}
-use Rattle.lattice.proofs.ListLaws.{ext, length-tabulate, at-tabulate}
+use Rattle.lattice.proofs.ListLaws.{or-T, ext, length-tabulate, at-tabulate}
 use Rattle.lattice.proofs.Leasts.{length-envelope}
 use Rattle.net.specs.Net.{Net, places, netOf}
 use Rattle.net.specs.Delay.{delay}
@@ -200,25 +200,29 @@ module _ (job : List ℕ) (e : refusal job ≡ 0) where
         bounded = reply-bounded net (bounds-never-cross job e) d refl _ _ behind;
       }
 
--- The job's own questions have the numbers to 11.
-unfoldable AtMost : ℕ → List Question → Type 0
-AtMost m [] = Unit {0}
-AtMost m (q ∷ qs) = (q .number ≤ m) × AtMost m qs
+-- The job's own questions have no number from 12 to 19: these are the operations' own.
+unfoldable Apart : List Question → Type 0
+Apart [] = Unit {0}
+Apart (q ∷ qs) = T (ltb (q .number) 12 || ltb 19 (q .number)) × Apart qs
 
-firstNo-le : (m : ℕ) (qs : List Question) → AtMost m qs → firstNo qs ≤ m
-unfolding firstNo AtMost
-firstNo-le m [] a = omega arith
-firstNo-le m (q ∷ qs) a = go (q .passed) (a .0) (firstNo-le m qs (a .1))
+-- n is a number of none of the questions
+firstNo-apart : (n : ℕ) (qs : List Question) → 12 ≤ n → n ≤ 19 → Apart qs → firstNo qs ≡ n → ⊥
+unfolding firstNo Apart
+firstNo-apart n [] l h a e = omega (arith, l, e)
+firstNo-apart n (q ∷ qs) l h a e = go (q .passed) (λ f. firstNo-apart n qs l h (a .1) f) e
   where
-    go : (b : Bool) → q .number ≤ m → firstNo qs ≤ m → cond b (firstNo qs) (q .number) ≤ m
-    go true h l = l
-    go false h l = h
+    other : q .number ≡ n → ⊥
+    other f = ⊎-elim (λ t. omega (arith, l, f, ltb→lt (q .number) 12 t)) (λ t. omega (arith, h, f, ltb→lt 19 (q .number) t)) (or-T (ltb (q .number) 12) (ltb 19 (q .number)) (a .0))
 
-pub refusal-le : (job : List ℕ) → refusal job ≤ 11
-unfolding refusal jobQuestions AtMost
-refusal-le job =
-    firstNo-le 11 (jobQuestions job)
-    (lit≤ tt, (lit≤ tt, (lit≤ tt, (lit≤ tt, (lit≤ tt, (lit≤ tt, (lit≤ tt, (lit≤ tt, (lit≤ tt, (lit≤ tt, (lit≤ tt, tt)))))))))))
+    go : (b : Bool) → (firstNo qs ≡ n → ⊥) → cond b (firstNo qs) (q .number) ≡ n → ⊥
+    go true rest f = rest f
+    go false rest f = other f
+
+pub refusal-apart : (job : List ℕ) (n : ℕ) → 12 ≤ n → n ≤ 19 → refusal job ≡ n → ⊥
+unfolding refusal jobQuestions Apart
+refusal-apart job n l h =
+    firstNo-apart n (jobQuestions job) l h
+    (tt, (tt, (tt, (tt, (tt, (tt, (tt, (tt, (tt, (tt, (tt, (tt, tt))))))))))))
 
 -- The questions of size itself, 12 and 14.
 module _ (job : List ℕ) (n : ℕ) where
@@ -251,7 +255,7 @@ module _ (job : List ℕ) (n : ℕ) where
         where
           no-reply : Replied (sizeNumber job n) → ⊥
           no-reply (inl k) = z (sym (size-fails z) ∙ k)
-          no-reply (inr k) = omega (arith, size-fails z, refusal-le job)
+          no-reply (inr k) = refusal-apart job 14 (lit≤ tt) (lit≤ tt) (sym (size-fails z) ∙ k)
 
   -- the number 13 is not used
   pub never-13 : sizeNumber job n ≡ 13 → ⊥
@@ -264,7 +268,7 @@ module _ (job : List ℕ) (n : ℕ) where
 
       go : Dec (refusal job ≡ 0) → ⊥
       go (yes e) = other fits few (size-passes e)
-      go (no z) = omega (arith, size-fails z, refusal-le job)
+      go (no z) = refusal-apart job 13 (lit≤ tt) (lit≤ tt) (sym (size-fails z) ∙ k)
 
 -- The buffer after size, by its number.
 module _ (job before : List ℕ) where

@@ -1,16 +1,16 @@
--- What passed questions give: a job that passes questions 1 to 11 has the facts of `Checked`, so its net is ordered and within the limits, its
+-- What passed questions give: a job that passes questions 1 to 11 and 24 has the facts of `Checked`, so its net is ordered and within the limits, its
 -- allowed sizings are closed and not empty, its delay is submodular on them and below 2 ^ 63, its load figure is what its stages charge, and
 -- each of its records is counted in its kind.
-use mathlib.Core.Path.{_≡_, refl}
+use mathlib.Core.Path.{_≡_, _∙_, refl, sym}
 use mathlib.Core.Logic.{_↔_}
 use mathlib.Core.Bool.{Bool, true, false, _&&_}
 use mathlib.Core.List.{List, _∷_}
-use Prim.Native.Nat.{ℕ, suc, _+_, _*_, _-_, _^_, _≤_, _<_}
+use Prim.Native.Nat.{ℕ, zero, suc, _+_, _*_, _-_, _^_, _≤_, _<_}
 use native.Mathlib.Nat.{mul-le-mul, mul-le-mul-right, le-dest}
 use native.Mathlib.Decide.{decLe}
 use native.Mathlib.Omega.{arith}
 use borrow.Author.Tests.{lt-ltb, le-ltb}
-use lib.Dec.{T, leb, ltb, leb→le, ltb→lt}
+use lib.Dec.{T, leb, ltb, leb→le, ltb→lt, lit<}
 use lib.ListN.{length}
 use Rattle.lattice.specs.Lists.{at, sum, every, tabulate}
 use Rattle.lattice.specs.Space.{Allowed, Falls, Rises, Boxed, inBox, within, Submodular}
@@ -18,17 +18,17 @@ use Rattle.lattice.proofs.ListLaws.{is-true, and-T, T-and, every-at, length-tab
 use Rattle.lattice.proofs.Boxes.{inBox-iff}
 use Rattle.lattice.proofs.Sums.{rises-steps, falls-steps}
 use Rattle.net.specs.declared.Counts.{Counts}
-use Rattle.net.specs.Job.{countsOf, placesBy, rowResistance, rowCapacitance, sizeResistance, sizeGate, sizeOutput, stageLowest, stageHighest, segmentParent, segmentSink, segmentLength, sinkCapacitance, sinkWeight, segmentLowest, segmentHighest}
+use Rattle.net.specs.Job.{countsOf, placesBy, widthsOf, firstRow, rowResistance, rowCapacitance, sizeResistance, sizeGate, sizeOutput, stageLowest, stageHighest, segmentParent, segmentSink, segmentLength, sinkCapacitance, sinkWeight, segmentLowest, segmentHighest, segmentLayer}
 use Rattle.net.specs.Net.{Net, places, netBy, netOf}
 use Rattle.net.specs.Delay.{delay, loadFigure}
 use Rattle.net.specs.Segments.{stageCharge}
 use Rattle.net.specs.Sizings.{allowed}
-use Rattle.net.specs.Questions.{inRange, question1, question2, question3, question4, sinkOrZero, question5, question6, question7, question8, question9, question10, question11, Question, ask, firstNo, jobQuestions, refusal}
+use Rattle.net.specs.Questions.{inRange, question1, question2, question24, question3, question4, sinkOrZero, question5, question6, question7, question8, question9, question10, question11, Question, ask, firstNo, jobQuestions, refusal}
 use Rattle.net.specs.Checked.{Held, Checked, InRanges, Ordered, Limited}
 use Rattle.net.proofs.Dominance.{delay-submodular}
 use Rattle.net.proofs.Bound.{delay-fits}
 use Rattle.net.proofs.Charged.{load-charged}
-use Rattle.net.proofs.Records.{counts-held, counts-fill}
+use Rattle.net.proofs.Records.{counts-held, layer-1, row-held, counts-fill}
 
 -- where no question fails, the first passes and so do the rest
 pub firstNo-zero : (n : ℕ) (q : Bool) (qs : List Question) → firstNo (ask (suc n) q ∷ qs) ≡ 0 → T q × (firstNo qs ≡ 0)
@@ -36,10 +36,11 @@ unfolding firstNo
 firstNo-zero n true qs e = (tt, e)
 firstNo-zero n false qs e = absurd (omega arith)
 
--- The eleven questions, all passed.
+-- The twelve questions, all passed.
 pub record Passed (c : Counts) (b : List ℕ) : Type 0 where
   pub one : T (question1 b)
   pub two : T (question2 b)
+  pub layers : T (question24 c b)
   pub three : T (question3 c)
   pub four : T (question4 c b)
   pub five : T (question5 c b)
@@ -56,7 +57,8 @@ passed b e =
     let c : Counts = countsOf b in
     let a1 = firstNo-zero 0 (question1 b) _ e in
     let a2 = firstNo-zero 1 (question2 b) _ (a1 .1) in
-    let a3 = firstNo-zero 2 (question3 c) _ (a2 .1) in
+    let a24 = firstNo-zero 23 (question24 c b) _ (a2 .1) in
+    let a3 = firstNo-zero 2 (question3 c) _ (a24 .1) in
     let a4 = firstNo-zero 3 (question4 c b) _ (a3 .1) in
     let a5 = firstNo-zero 4 (question5 c b) _ (a4 .1) in
     let a6 = firstNo-zero 5 (question6 c b) _ (a5 .1) in
@@ -68,6 +70,7 @@ passed b e =
     record {
       one = a1 .0;
       two = a2 .0;
+      layers = a24 .0;
       three = a3 .0;
       four = a4 .0;
       five = a5 .0;
@@ -84,13 +87,31 @@ in-range l h v t = let a = and-T (leb l v) (leb v h) t in (leb→le l v (a .0), 
 
 -- each question's facts
 module _ (c : Counts) (b : List ℕ) (a : Passed c b) where
-  few : (c .widths ≤ 8) × (c .sizes ≤ 16) × (1 ≤ c .stages) × (c .stages ≤ 4) × (c .segments ≤ 64)
+  few : (widthsOf c 0 ≤ 8) × (widthsOf c 1 ≤ 8) × (c .sizes ≤ 16) × (1 ≤ c .stages) × (c .stages ≤ 4) × (c .segments ≤ 64)
   unfolding question3
   few =
-      let w = and-T (inRange 1 8 (c .widths)) _ (a .three) in
+      let v = and-T (inRange 1 8 (widthsOf c 0)) _ (a .three) in
+      let w = and-T (inRange 0 8 (widthsOf c 1)) _ (v .1) in
       let s = and-T (inRange 1 16 (c .sizes)) _ (w .1) in
-      let t = and-T (inRange 1 4 (c .stages)) (inRange 1 64 (c .segments)) (s .1) in
-      (in-range 1 8 _ (w .0) .1, in-range 1 16 _ (s .0) .1, in-range 1 4 _ (t .0) .0, in-range 1 4 _ (t .0) .1, in-range 1 64 _ (t .1) .1)
+      let t = and-T (inRange 1 4 (c .stages)) (inRange 1 64 (c .segments)) (s .1) in (
+        in-range 1 8 _ (v .0) .1,
+        in-range 0 8 _ (w .0) .1,
+        in-range 1 16 _ (s .0) .1,
+        in-range 1 4 _ (t .0) .0,
+        in-range 1 4 _ (t .0) .1,
+        in-range 1 64 _ (t .1) .1,
+      )
+
+  -- A layer byte above 1 counts as 1.
+  same-layer : (l : ℕ) → (widthsOf c (suc l) ≡ widthsOf c 1) × (firstRow c (suc l) ≡ firstRow c 1)
+  same-layer l =
+      let e = layer-1 c (suc l) (λ z. omega (arith, z)) in
+      let f = layer-1 c 1 (λ z. omega (arith, z)) in
+      (e .0 ∙ sym (f .0), e .1 ∙ sym (f .1))
+
+  few-widths : (l : ℕ) → widthsOf c l ≤ 8
+  few-widths zero = few .0
+  few-widths (suc l) = rw (same-layer l .0) (few .1)
 
   rows : (k : ℕ) → k < c .widths → (rowResistance b k ≤ 100) × (rowCapacitance b k ≤ 100)
   unfolding question6
@@ -107,17 +128,29 @@ module _ (c : Counts) (b : List ℕ) (a : Passed c b) where
       let w = and-T (inRange 1 100000 (sizeGate c b k)) (inRange 0 100000 (sizeOutput c b k)) (v .1) in
       (in-range 1 100000 _ (v .0) .1, in-range 1 100000 _ (w .0) .1, in-range 0 100000 _ (w .1) .1)
 
-  rows-order : (k : ℕ) → suc k < c .widths → (rowResistance b (suc k) < rowResistance b k) × (rowCapacitance b k < rowCapacitance b (suc k))
+  -- Does row k of layer l have a larger resistance and a smaller capacitance than the next?
+  abbrev rowsFall : ℕ → ℕ → Bool
+  rowsFall l k = ltb (rowResistance b (firstRow c l + suc k)) (rowResistance b (firstRow c l + k)) && ltb (rowCapacitance b (firstRow c l + k)) (rowCapacitance b (firstRow c l + suc k))
+
+  abbrev RowsFall : ℕ → ℕ → Type 0
+  RowsFall l k = (rowResistance b (firstRow c l + suc k) < rowResistance b (firstRow c l + k)) × (rowCapacitance b (firstRow c l + k) < rowCapacitance b (firstRow c l + suc k))
+
+  layer-order : (l k : ℕ) → l < 2 → suc k < widthsOf c l → RowsFall l k
   unfolding question7
-  rows-order k h =
-      let t = and-T (every (c .widths - 1) (λ j. ltb (rowResistance b (suc j)) (rowResistance b j) && ltb (rowCapacitance b j) (rowCapacitance b (suc j)))) _ (a .seven) .0 in
-      let v = and-T (ltb (rowResistance b (suc k)) (rowResistance b k)) (ltb (rowCapacitance b k) (rowCapacitance b (suc k))) (every-at (c .widths - 1) _ t k (omega arith)) in
+  layer-order l k m h =
+      let t = and-T (every 2 (λ z. every (widthsOf c z - 1) (rowsFall z))) _ (a .seven) .0 in
+      let u = every-at 2 (λ z. every (widthsOf c z - 1) (rowsFall z)) t l m in
+      let v = and-T (ltb (rowResistance b (firstRow c l + suc k)) (rowResistance b (firstRow c l + k))) _ (every-at (widthsOf c l - 1) (rowsFall l) u k (omega arith)) in
       (ltb→lt _ _ (v .0), ltb→lt _ _ (v .1))
+
+  rows-order : (l k : ℕ) → suc k < widthsOf c l → RowsFall l k
+  rows-order zero k h = layer-order 0 k (lit< tt) h
+  rows-order (suc l) k h = rw (same-layer l .1) (layer-order 1 k (lit< tt) (rw (same-layer l .0) at h))
 
   drivers-order : (k : ℕ) → suc k < c .sizes → (sizeResistance c b (suc k) < sizeResistance c b k) × (sizeGate c b k < sizeGate c b (suc k))
   unfolding question7
   drivers-order k h =
-      let t = and-T (every (c .widths - 1) (λ j. ltb (rowResistance b (suc j)) (rowResistance b j) && ltb (rowCapacitance b j) (rowCapacitance b (suc j)))) _ (a .seven) .1 in
+      let t = and-T (every 2 (λ z. every (widthsOf c z - 1) (rowsFall z))) _ (a .seven) .1 in
       let v = and-T (ltb (sizeResistance c b (suc k)) (sizeResistance c b k)) (ltb (sizeGate c b k) (sizeGate c b (suc k))) (every-at (c .sizes - 1) _ t k (omega arith)) in
       (ltb→lt _ _ (v .0), ltb→lt _ _ (v .1))
 
@@ -135,7 +168,7 @@ module _ (c : Counts) (b : List ℕ) (a : Passed c b) where
   -- the fields of a segment
   segment-fields : (i : ℕ) → i < c .segments
       → (segmentSink c b i ≤ 1) × (segmentLength c b i ≤ 1000) × (sinkCapacitance c b i ≤ 100000) × (sinkWeight c b i ≤ 255)
-      × (segmentLowest c b i ≤ segmentHighest c b i) × (segmentHighest c b i < c .widths)
+      × (segmentLowest c b i ≤ segmentHighest c b i) × (segmentHighest c b i < widthsOf c (segmentLayer c b i))
   unfolding question10
   segment-fields i h =
       let t1 = and-T (inRange 0 1 (segmentSink c b i)) _ (every-at (c .segments) _ (a .ten) i h) in
@@ -143,7 +176,7 @@ module _ (c : Counts) (b : List ℕ) (a : Passed c b) where
       let t3 = and-T (inRange 0 100000 (sinkCapacitance c b i)) _ (t2 .1) in
       let t4 = and-T (inRange 0 255 (sinkWeight c b i)) _ (t3 .1) in
       let t5 = and-T (sinkOrZero c b i) _ (t4 .1) in
-      let t6 = and-T (leb (segmentLowest c b i) (segmentHighest c b i)) (ltb (segmentHighest c b i) (c .widths)) (t5 .1) in (
+      let t6 = and-T (leb (segmentLowest c b i) (segmentHighest c b i)) (ltb (segmentHighest c b i) (widthsOf c (segmentLayer c b i))) (t5 .1) in (
         in-range 0 1 _ (t1 .0) .1,
         in-range 1 1000 _ (t2 .0) .1,
         in-range 0 100000 _ (t3 .0) .1,
@@ -183,11 +216,11 @@ checked-by c b e h a =
     record {
       counted = e;
       held = h;
-      fewWidths = few c b a .0;
-      fewSizes = few c b a .1;
-      someStage = few c b a .2;
-      fewStages = few c b a .3;
-      fewSegments = few c b a .4;
+      fewWidths = few-widths c b a;
+      fewSizes = few c b a .2;
+      someStage = few c b a .3;
+      fewStages = few c b a .4;
+      fewSegments = few c b a .5;
       rows = rows c b a;
       drivers = drivers c b a;
       rowsOrder = rows-order c b a;
@@ -207,12 +240,18 @@ pub checked : (b : List ℕ) → refusal b ≡ 0 → Checked (countsOf b) b
 checked b e = checked-by (countsOf b) b refl (counts-held b) (passed b e)
 
 module _ {c : Counts} {b : List ℕ} (k : Checked c b) where
-  -- the rows of the widths times a length
-  rows-fall : (l h m : ℕ) → h < c .widths → Falls l h (λ w. rowResistance b w * m)
-  rows-fall l h m n = falls-steps l h (λ w. rowResistance b w * m) (λ w i j. let o = k .rowsOrder w (omega arith) in mul-le-mul-right m (omega arith))
+  -- the rows of a layer times a length
+  rows-fall : (z l h m : ℕ) → h < widthsOf c z → Falls l h (λ w. rowResistance b (firstRow c z + w) * m)
+  rows-fall z l h m n = falls-steps l h (λ w. rowResistance b (firstRow c z + w) * m) (λ w i j. let o = k .rowsOrder z w (omega arith) in mul-le-mul-right m (omega arith))
 
-  rows-rise : (l h m : ℕ) → h < c .widths → Rises l h (λ w. rowCapacitance b w * m)
-  rows-rise l h m n = rises-steps l h (λ w. rowCapacitance b w * m) (λ w i j. let o = k .rowsOrder w (omega arith) in mul-le-mul-right m (omega arith))
+  rows-rise : (z l h m : ℕ) → h < widthsOf c z → Rises l h (λ w. rowCapacitance b (firstRow c z + w) * m)
+  rows-rise z l h m n = rises-steps l h (λ w. rowCapacitance b (firstRow c z + w) * m) (λ w i j. let o = k .rowsOrder z w (omega arith) in mul-le-mul-right m (omega arith))
+
+  -- the figures of segment i's wire at a width of its layer
+  pub wire-small : (i w : ℕ) → i < c .segments → w < widthsOf c (segmentLayer c b i) → (netBy c b .wireResistance i w ≤ 100000) × (netBy c b .wireCapacitance i w ≤ 100000)
+  wire-small i w h n =
+      let r = k .rows (firstRow c (segmentLayer c b i) + w) (row-held (k .held) (segmentLayer c b i) w n) in
+      (mul-le-mul (r .0) (k .lengths i h), mul-le-mul (r .1) (k .lengths i h))
 
   pub ordered : Ordered (netBy c b)
   ordered =
@@ -220,8 +259,8 @@ module _ {c : Counts} {b : List ℕ} (k : Checked c b) where
         parents = k .parents;
         drivers = λ s h. let n = k .sized s h in falls-steps _ _ (sizeResistance c b) (λ z i j. let o = k .driversOrder z (omega arith) in omega arith);
         gates = λ s h. let n = k .sized s h in rises-steps _ _ (sizeGate c b) (λ z i j. let o = k .driversOrder z (omega arith) in omega arith);
-        resistances = λ i h. rows-fall _ _ _ (k .wired i h);
-        capacitances = λ i h. rows-rise _ _ _ (k .wired i h);
+        resistances = λ i h. rows-fall (segmentLayer c b i) _ _ _ (k .wired i h);
+        capacitances = λ i h. rows-rise (segmentLayer c b i) _ _ _ (k .wired i h);
       }
 
   pub limited : Limited (netBy c b)
@@ -231,8 +270,8 @@ module _ {c : Counts} {b : List ℕ} (k : Checked c b) where
         segments = k .fewSegments;
         weights = k .weights;
         sinks = k .sinks;
-        resistances = λ i w h n. mul-le-mul (k .rows w (omega (arith, k .wired i h)) .0) (k .lengths i h);
-        capacitances = λ i w h n. mul-le-mul (k .rows w (omega (arith, k .wired i h)) .1) (k .lengths i h);
+        resistances = λ i w h n. wire-small i w h (omega (arith, k .wired i h)) .0;
+        capacitances = λ i w h n. wire-small i w h (omega (arith, k .wired i h)) .1;
         drivers = λ s z h n. k .drivers z (omega (arith, k .sized s h)) .0;
         gates = λ s z h n. k .drivers z (omega (arith, k .sized s h)) .1;
         outputs = λ s z h n. k .drivers z (omega (arith, k .sized s h)) .2;
@@ -240,7 +279,7 @@ module _ {c : Counts} {b : List ℕ} (k : Checked c b) where
 
   module _ {x : List ℕ} (a : InRanges (netBy c b) x) where
     -- an index in its range is one of its table
-    pub width-held : (i : ℕ) → i < c .segments → at x (c .stages + i) < c .widths
+    pub width-held : (i : ℕ) → i < c .segments → at x (c .stages + i) < widthsOf c (segmentLayer c b i)
     width-held i l = omega (arith, k .wired i l, a .high (c .stages + i) (omega arith))
 
     pub size-held : (s : ℕ) → s < c .stages → at x s < c .sizes
@@ -290,7 +329,7 @@ module _ {c : Counts} {b : List ℕ} (k : Checked c b) where
   pub checked-charged : (x : List ℕ) → sum (c .stages) (stageCharge (netBy c b) x) ≡ loadFigure (netBy c b) x
   checked-charged x = load-charged (netBy c b) x (k .someStage) (k .parents)
 
--- The same of every job that passes questions 1 to 11.
+-- The same of every job that passes questions 1 to 11 and 24.
 module _ (b : List ℕ) (e : refusal b ≡ 0) where
   pub job-allowed : Allowed (allowed (netOf b)) (lowestSizing (netOf b))
   job-allowed = checked-allowed (checked b e)

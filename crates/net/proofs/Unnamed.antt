@@ -10,20 +10,19 @@ use lib.Dec.{T, eqb, eqb→eq}
 use Rattle.lattice.specs.Lists.{every}
 use Rattle.lattice.proofs.ListLaws.{and-T, T-and, eq-T, every-at, at-every}
 use Rattle.net.specs.declared.Counts.{Counts}
-use Rattle.net.specs.Job.{byte, widthAt, sizeAt, stageAt, segmentAt}
+use Rattle.net.specs.Job.{byte, widthAt, sizeAt, stageAt}
 use Rattle.net.specs.Questions.{zeros, question5}
 
 -- Bytes l to h, h left out, of the record at r are zero.
 abbrev ZeroBytes : List ℕ → ℕ → ℕ → ℕ → Type 0
 ZeroBytes b r l h = (j : ℕ) → l ≤ j → j < h → byte b (r + j) ≡ 0
 
--- All bytes that the format does not name are zero; a width has some before its figures and some behind them.
+-- All bytes that the format does not name are zero; a width has one before its figures and some behind them, a segment has none.
 pub record UnnamedZero (c : Counts) (b : List ℕ) : Type 0 where
-  pub widthsBefore : (k : ℕ) → k < c .widths → ZeroBytes b (widthAt k) 2 4
+  pub widthsBefore : (k : ℕ) → k < c .widths → ZeroBytes b (widthAt k) 3 4
   pub widthsBehind : (k : ℕ) → k < c .widths → ZeroBytes b (widthAt k) 12 16
   pub sizes : (k : ℕ) → k < c .sizes → ZeroBytes b (sizeAt c k) 2 4
   pub stages : (s : ℕ) → s < c .stages → ZeroBytes b (stageAt c s) 4 16
-  pub segments : (i : ℕ) → i < c .segments → ZeroBytes b (segmentAt c i) 15 16
 
 module _ (c : Counts) (b : List ℕ) where
   bytes-zero : (r l n : ℕ) → ZeroBytes b r l (l + n) → T (zeros c b (r + l) n)
@@ -39,7 +38,7 @@ module _ (c : Counts) (b : List ℕ) where
       rw f at e
 
   abbrev row : ℕ → Bool
-  row k = zeros c b (widthAt k + 2) 2 && zeros c b (widthAt k + 12) 4
+  row k = zeros c b (widthAt k + 3) 1 && zeros c b (widthAt k + 12) 4
 
   abbrev size : ℕ → Bool
   size k = zeros c b (sizeAt c k + 2) 2
@@ -47,32 +46,25 @@ module _ (c : Counts) (b : List ℕ) where
   abbrev stage : ℕ → Bool
   stage s = zeros c b (stageAt c s + 4) 12
 
-  abbrev segment : ℕ → Bool
-  segment i = zeros c b (segmentAt c i + 15) 1
-
   zero-passes : UnnamedZero c b → T (question5 c b)
   unfolding question5
   zero-passes u =
-      T-and (every (c .widths) row) (every (c .sizes) size && (every (c .stages) stage && every (c .segments) segment))
-      (at-every (c .widths) row (λ k h. T-and (zeros c b (widthAt k + 2) 2) _ (bytes-zero (widthAt k) 2 2 (u .widthsBefore k h)) (bytes-zero (widthAt k) 12 4 (u .widthsBehind k h))))
-      (T-and (every (c .sizes) size) (every (c .stages) stage && every (c .segments) segment)
+      T-and (every (c .widths) row) (every (c .sizes) size && every (c .stages) stage)
+      (at-every (c .widths) row (λ k h. T-and (zeros c b (widthAt k + 3) 1) _ (bytes-zero (widthAt k) 3 1 (u .widthsBefore k h)) (bytes-zero (widthAt k) 12 4 (u .widthsBehind k h))))
+      (T-and (every (c .sizes) size) (every (c .stages) stage)
       (at-every (c .sizes) size (λ k h. bytes-zero (sizeAt c k) 2 2 (u .sizes k h)))
-      (T-and (every (c .stages) stage) (every (c .segments) segment)
-      (at-every (c .stages) stage (λ s h. bytes-zero (stageAt c s) 4 12 (u .stages s h)))
-      (at-every (c .segments) segment (λ i h. bytes-zero (segmentAt c i) 15 1 (u .segments i h)))))
+      (at-every (c .stages) stage (λ s h. bytes-zero (stageAt c s) 4 12 (u .stages s h))))
 
   passes-zero : T (question5 c b) → UnnamedZero c b
   unfolding question5
   passes-zero t =
       let t1 = and-T (every (c .widths) row) _ t in
-      let t2 = and-T (every (c .sizes) size) _ (t1 .1) in
-      let t3 = and-T (every (c .stages) stage) (every (c .segments) segment) (t2 .1) in
+      let t2 = and-T (every (c .sizes) size) (every (c .stages) stage) (t1 .1) in
       record {
-        widthsBefore = λ k h. zero-bytes (widthAt k) 2 2 (and-T (zeros c b (widthAt k + 2) 2) _ (every-at (c .widths) row (t1 .0) k h) .0);
-        widthsBehind = λ k h. zero-bytes (widthAt k) 12 4 (and-T (zeros c b (widthAt k + 2) 2) _ (every-at (c .widths) row (t1 .0) k h) .1);
+        widthsBefore = λ k h. zero-bytes (widthAt k) 3 1 (and-T (zeros c b (widthAt k + 3) 1) _ (every-at (c .widths) row (t1 .0) k h) .0);
+        widthsBehind = λ k h. zero-bytes (widthAt k) 12 4 (and-T (zeros c b (widthAt k + 3) 1) _ (every-at (c .widths) row (t1 .0) k h) .1);
         sizes = λ k h. zero-bytes (sizeAt c k) 2 2 (every-at (c .sizes) size (t2 .0) k h);
-        stages = λ s h. zero-bytes (stageAt c s) 4 12 (every-at (c .stages) stage (t3 .0) s h);
-        segments = λ i h. zero-bytes (segmentAt c i) 15 1 (every-at (c .segments) segment (t3 .1) i h);
+        stages = λ s h. zero-bytes (stageAt c s) 4 12 (every-at (c .stages) stage (t2 .1) s h);
       }
 
   pub unnamed-only : T (question5 c b) ↔ UnnamedZero c b

@@ -1,5 +1,5 @@
 -- What the contracts of inner functions ask: the facts that a job's passed questions give. `proofs/Questions` shows that every job that passes
--- questions 1 to 11 has them; no public operation asks them of its caller.
+-- questions 1 to 11 and 24 has them; no public operation asks them of its caller.
 use mathlib.Core.Path.{_≡_}
 use mathlib.Core.List.{List}
 use Prim.Native.Nat.{ℕ, suc, _+_, _*_, _≤_, _<_}
@@ -7,20 +7,21 @@ use lib.ListN.{length}
 use Rattle.lattice.specs.Lists.{at}
 use Rattle.lattice.specs.Space.{Falls, Rises, Allowed}
 use Rattle.net.specs.declared.Counts.{Counts}
-use Rattle.net.specs.Job.{countsOf, placesBy, rowResistance, rowCapacitance, sizeResistance, sizeGate, sizeOutput, segmentLength}
+use Rattle.net.specs.Job.{countsOf, placesBy, widthsOf, firstRow, rowResistance, rowCapacitance, sizeResistance, sizeGate, sizeOutput, segmentLength, segmentLayer}
 use Rattle.net.specs.Net.{Net, places, netBy}
 use Rattle.net.specs.Sizings.{allowed}
 
--- The records that are counted are there.
+-- The records that are counted are there, and the widths of layer 0 are among the widths.
 pub record Held (c : Counts) (b : List ℕ) : Type 0 where
   pub all : 16 * (c .widths + c .sizes + c .stages + c .segments) ≤ length b
+  pub layers : c .layer0 ≤ c .widths
 
--- What questions 1 to 10 give, with the counts of the job's records.
+-- What questions 1 to 10 and 24 give, with the counts of the job's records.
 pub record Checked (c : Counts) (b : List ℕ) : Type 0 where
   -- 1 to 3
   pub counted : c ≡ countsOf b
   pub held : Held c b
-  pub fewWidths : c .widths ≤ 8
+  pub fewWidths : (l : ℕ) → widthsOf c l ≤ 8
   pub fewSizes : c .sizes ≤ 16
   pub someStage : 1 ≤ c .stages
   pub fewStages : c .stages ≤ 4
@@ -29,12 +30,14 @@ pub record Checked (c : Counts) (b : List ℕ) : Type 0 where
   pub rows : (k : ℕ) → k < c .widths → (rowResistance b k ≤ 100) × (rowCapacitance b k ≤ 100)
   pub drivers : (k : ℕ) → k < c .sizes → (sizeResistance c b k ≤ 100000) × (sizeGate c b k ≤ 100000) × (sizeOutput c b k ≤ 100000)
   -- 7
-  pub rowsOrder : (k : ℕ) → suc k < c .widths → (rowResistance b (suc k) < rowResistance b k) × (rowCapacitance b k < rowCapacitance b (suc k))
+  pub rowsOrder : (l k : ℕ) → suc k < widthsOf c l
+      → (rowResistance b (firstRow c l + suc k) < rowResistance b (firstRow c l + k))
+      × (rowCapacitance b (firstRow c l + k) < rowCapacitance b (firstRow c l + suc k))
   pub driversOrder : (k : ℕ) → suc k < c .sizes → (sizeResistance c b (suc k) < sizeResistance c b k) × (sizeGate c b k < sizeGate c b (suc k))
   -- 8 and 10: each range is not empty and of its table
   pub ranges : (p : ℕ) → p < placesBy c → netBy c b .lowest p ≤ netBy c b .highest p
   pub sized : (s : ℕ) → s < c .stages → netBy c b .highest s < c .sizes
-  pub wired : (i : ℕ) → i < c .segments → netBy c b .highest (c .stages + i) < c .widths
+  pub wired : (i : ℕ) → i < c .segments → netBy c b .highest (c .stages + i) < widthsOf c (segmentLayer c b i)
   -- 9
   pub parents : (i : ℕ) → i < c .segments → netBy c b .parent i ≤ i
   -- 10

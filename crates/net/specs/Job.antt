@@ -1,7 +1,7 @@
 -- What the bytes of a job say, record by record: the section 'Job records' of the specification.
-use mathlib.Core.Bool.{cond}
+use mathlib.Core.Bool.{Bool, cond, _&&_}
 use mathlib.Core.List.{List}
-use Prim.Native.Nat.{ℕ, zero, suc, _+_, _*_, _/_}
+use Prim.Native.Nat.{ℕ, zero, suc, _+_, _*_, _-_, _/_}
 use lib.Dec.{eqb}
 use lib.ListN.{length, getD}
 use Rattle.net.specs.declared.Counts.{Counts}
@@ -22,16 +22,31 @@ records b = _/_ (length b) 16
 abbrev pub kind : List ℕ → ℕ → ℕ
 kind b r = byte b (16 * r)
 
--- How many of the first n records are of the kind k.
-unfoldable pub count : List ℕ → ℕ → ℕ → ℕ
-count b k zero = 0
-count b k (suc n) = cond (eqb (kind b n) k) 1 0 + count b k n
+-- Where a width starts, in a job whose records stand kind after kind, and its layer: 1 is the thick top metal.
+abbrev pub widthAt : ℕ → ℕ
+widthAt k = 16 * k
 
--- How many records of each kind a job has.
+abbrev pub widthLayer : List ℕ → ℕ → ℕ
+widthLayer b k = byte b (widthAt k + 2)
+
+-- How many of the first n records pass a test.
+unfoldable pub countIf : (ℕ → Bool) → ℕ → ℕ
+countIf f zero = 0
+countIf f (suc n) = cond (f n) 1 0 + countIf f n
+
+-- How many of the first n records are of the kind k, and how many are widths of layer 0.
+abbrev pub count : List ℕ → ℕ → ℕ → ℕ
+count b k n = countIf (λ r. eqb (kind b r) k) n
+
+abbrev pub countLayer0 : List ℕ → ℕ → ℕ
+countLayer0 b n = countIf (λ r. eqb (kind b r) 1 && eqb (widthLayer b r) 0) n
+
+-- How many records of each kind a job has, and how many of its widths are of layer 0.
 unfoldable pub countsOf : List ℕ → Counts
 countsOf b =
     record {
       widths = count b 1 (records b);
+      layer0 = countLayer0 b (records b);
       sizes = count b 2 (records b);
       stages = count b 3 (records b);
       segments = count b 4 (records b);
@@ -41,10 +56,15 @@ countsOf b =
 abbrev pub placesBy : Counts → ℕ
 placesBy c = c .stages + c .segments
 
--- Where a record starts, in a job whose records stand kind after kind.
-abbrev pub widthAt : ℕ → ℕ
-widthAt k = 16 * k
+-- How many widths layer l has, and where among all widths its first row stands: the rows of layer 1 come behind those of layer 0. A layer byte
+-- above 1, which question 24 refuses, is counted as 1.
+unfoldable pub widthsOf : Counts → ℕ → ℕ
+widthsOf c l = cond (eqb l 0) (c .layer0) (c .widths - c .layer0)
 
+unfoldable pub firstRow : Counts → ℕ → ℕ
+firstRow c l = cond (eqb l 0) 0 (c .layer0)
+
+-- Where a record of another kind starts.
 abbrev pub sizeAt : Counts → ℕ → ℕ
 sizeAt c k = 16 * (c .widths + k)
 
@@ -57,7 +77,7 @@ stageAt c s = placeAt c s
 abbrev pub segmentAt : Counts → ℕ → ℕ
 segmentAt c i = placeAt c (c .stages + i)
 
--- The fields of width k.
+-- The fields of width k, of those of both layers.
 abbrev pub rowResistance : List ℕ → ℕ → ℕ
 rowResistance b k = word b (widthAt k + 4)
 
@@ -103,3 +123,6 @@ module _ (c : Counts) (b : List ℕ) where
 
   abbrev pub segmentHighest : ℕ → ℕ
   segmentHighest i = byte b (segmentAt c i + 14)
+
+  abbrev pub segmentLayer : ℕ → ℕ
+  segmentLayer i = byte b (segmentAt c i + 15)

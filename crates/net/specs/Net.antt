@@ -4,7 +4,7 @@ use mathlib.Core.List.{List}
 use Prim.Native.Nat.{ℕ, _+_, _*_}
 use lib.Dec.{ltb}
 use Rattle.net.specs.declared.Counts.{Counts}
-use Rattle.net.specs.Job.{byte, countsOf, placeAt, rowResistance, rowCapacitance, sizeResistance, sizeGate, sizeOutput, segmentParent, segmentLength, sinkCapacitance, sinkWeight}
+use Rattle.net.specs.Job.{byte, countsOf, placeAt, firstRow, rowResistance, rowCapacitance, sizeResistance, sizeGate, sizeOutput, segmentParent, segmentLength, sinkCapacitance, sinkWeight, segmentLayer}
 
 -- An index is the size of a stage's driver or the width of a segment's wire. A node is where branches hang: 0 is the source, `suc i` the far end
 -- of segment i, so a parent byte is the node that its segment hangs at.
@@ -30,7 +30,8 @@ pub record Net : Type 0 where
 abbrev pub places : Net → ℕ
 places net = net .stages + net .segments
 
--- The net that a job describes, by the counts of its records: a segment's resistance is its row's times length, its capacitance likewise.
+-- The net that a job describes, by the counts of its records: a segment's resistance at the width k is that of row k of its own layer times its
+-- length, its capacitance likewise.
 abbrev pub netBy : Counts → List ℕ → Net
 netBy c b =
     record {
@@ -41,8 +42,8 @@ netBy c b =
       driverResistance = sizeResistance c b;
       gate = sizeGate c b;
       output = sizeOutput c b;
-      wireResistance = λ i k. rowResistance b k * segmentLength c b i;
-      wireCapacitance = λ i k. rowCapacitance b k * segmentLength c b i;
+      wireResistance = λ i k. rowResistance b (firstRow c (segmentLayer c b i) + k) * segmentLength c b i;
+      wireCapacitance = λ i k. rowCapacitance b (firstRow c (segmentLayer c b i) + k) * segmentLength c b i;
       parent = segmentParent c b;
       sink = sinkCapacitance c b;
       weight = sinkWeight c b;

@@ -1,5 +1,5 @@
--- The questions 1 to 11, each asked of the whole job, and the first whose answer is no: the section 'The questions' of the specification.
--- From question 4 on, `c` is the counts of the job's records by kind.
+-- The questions 1 to 11 and 24, each asked of the whole job, and the first whose answer is no: the section 'The questions' of the specification.
+-- From question 24 on, which is asked after 2, `c` is the counts of the job's records.
 use mathlib.Core.Bool.{Bool, cond, not, _&&_, _||_}
 use mathlib.Core.List.{List, [], _∷_}
 use Prim.Native.Nat.{ℕ, suc, _+_, _-_, _%_}
@@ -7,7 +7,7 @@ use lib.Dec.{leb, ltb, eqb}
 use lib.ListN.{length}
 use Rattle.lattice.specs.Lists.{every, some}
 use Rattle.net.specs.declared.Counts.{Counts}
-use Rattle.net.specs.Job.{byte, records, kind, countsOf, widthAt, sizeAt, stageAt, segmentAt, rowResistance, rowCapacitance, sizeResistance, sizeGate, sizeOutput, stageLowest, stageHighest, segmentParent, segmentSink, segmentLength, sinkCapacitance, sinkWeight, segmentLowest, segmentHighest}
+use Rattle.net.specs.Job.{byte, records, kind, countsOf, widthAt, widthLayer, widthsOf, firstRow, sizeAt, stageAt, segmentAt, rowResistance, rowCapacitance, sizeResistance, sizeGate, sizeOutput, stageLowest, stageHighest, segmentParent, segmentSink, segmentLength, sinkCapacitance, sinkWeight, segmentLowest, segmentHighest, segmentLayer}
 
 -- Is v from l to h, both included?
 abbrev pub inRange : ℕ → ℕ → ℕ → Bool
@@ -21,15 +21,28 @@ question1 b = ltb 0 (length b) && eqb (_%_ (length b) 16) 0
 unfoldable pub question2 : List ℕ → Bool
 question2 b = every (records b) (λ r. inRange 1 4 (kind b r)) && every (records b - 1) (λ r. leb (kind b r) (kind b (suc r)))
 
--- 3. Is each kind's count in its range?
+-- 24. Is every layer byte 0 or 1, does the layer never fall from one width to the next, and has layer 1 a width where a segment names it?
+unfoldable pub question24 : Counts → List ℕ → Bool
+question24 c b =
+    every (c .widths) (λ k. inRange 0 1 (widthLayer b k))
+    && (every (c .segments) (λ i. inRange 0 1 (segmentLayer c b i))
+    && (every (c .widths - 1) (λ k. leb (widthLayer b k) (widthLayer b (suc k)))
+    && every (c .segments) (λ i. not (eqb (segmentLayer c b i) 1) || ltb 0 (widthsOf c 1))))
+
+-- 3. Is each kind's count in its range, that of widths in each layer?
 unfoldable pub question3 : Counts → Bool
-question3 c = inRange 1 8 (c .widths) && (inRange 1 16 (c .sizes) && (inRange 1 4 (c .stages) && inRange 1 64 (c .segments)))
+question3 c =
+    inRange 1 8 (widthsOf c 0)
+    && (inRange 0 8 (widthsOf c 1)
+    && (inRange 1 16 (c .sizes)
+    && (inRange 1 4 (c .stages)
+    && inRange 1 64 (c .segments))))
 
 module _ (c : Counts) (b : List ℕ) where
-  -- 4. Do numbers count from 0 in each kind?
+  -- 4. Do numbers count from 0 in each kind, those of widths in each layer?
   unfoldable pub question4 : Bool
   question4 =
-      every (c .widths) (λ k. eqb (byte b (widthAt k + 1)) k)
+      every 2 (λ l. every (widthsOf c l) (λ k. eqb (byte b (widthAt (firstRow c l + k) + 1)) k))
       && (every (c .sizes) (λ k. eqb (byte b (sizeAt c k + 1)) k)
       && (every (c .stages) (λ s. eqb (byte b (stageAt c s + 1)) s)
       && every (c .segments) (λ i. eqb (byte b (segmentAt c i + 1)) i)))
@@ -41,10 +54,9 @@ module _ (c : Counts) (b : List ℕ) where
   -- 5. Are all unnamed bytes zero?
   unfoldable pub question5 : Bool
   question5 =
-      every (c .widths) (λ k. zeros (widthAt k + 2) 2 && zeros (widthAt k + 12) 4)
+      every (c .widths) (λ k. zeros (widthAt k + 3) 1 && zeros (widthAt k + 12) 4)
       && (every (c .sizes) (λ k. zeros (sizeAt c k + 2) 2)
-      && (every (c .stages) (λ s. zeros (stageAt c s + 4) 12)
-      && every (c .segments) (λ i. zeros (segmentAt c i + 15) 1)))
+      && every (c .stages) (λ s. zeros (stageAt c s + 4) 12))
 
   -- 6. Are the values of kinds 1 and 2 in range?
   unfoldable pub question6 : Bool
@@ -53,11 +65,14 @@ module _ (c : Counts) (b : List ℕ) where
       && every (c .sizes)
       (λ k. inRange 1 100000 (sizeResistance c b k) && (inRange 1 100000 (sizeGate c b k) && inRange 0 100000 (sizeOutput c b k)))
 
-  -- 7. In each of the two tables, does resistance strictly fall, and do width capacitance and gate capacitance strictly rise?
+  -- 7. In each table, that of each layer and that of the driver sizes, does resistance strictly fall, and do width capacitance and gate
+  -- capacitance strictly rise?
   unfoldable pub question7 : Bool
   question7 =
-      every (c .widths - 1)
-      (λ k. ltb (rowResistance b (suc k)) (rowResistance b k) && ltb (rowCapacitance b k) (rowCapacitance b (suc k)))
+      every 2
+      (λ l. every (widthsOf c l - 1)
+      (λ k. ltb (rowResistance b (firstRow c l + suc k)) (rowResistance b (firstRow c l + k))
+      && ltb (rowCapacitance b (firstRow c l + k)) (rowCapacitance b (firstRow c l + suc k))))
       && every (c .sizes - 1)
       (λ k. ltb (sizeResistance c b (suc k)) (sizeResistance c b k) && ltb (sizeGate c b k) (sizeGate c b (suc k)))
 
@@ -75,7 +90,7 @@ module _ (c : Counts) (b : List ℕ) where
   unfoldable pub sinkOrZero : ℕ → Bool
   sinkOrZero i = not (eqb (segmentSink c b i) 0) || (eqb (sinkCapacitance c b i) 0 && eqb (sinkWeight c b i) 0)
 
-  -- 10. Are segment fields in range, capacitance and weight 0 where there is no sink, and lowest ≤ highest < count of widths?
+  -- 10. Are segment fields in range, capacitance and weight 0 where there is no sink, and lowest ≤ highest < count of widths of its layer?
   unfoldable pub question10 : Bool
   question10 =
       every (c .segments)
@@ -83,7 +98,8 @@ module _ (c : Counts) (b : List ℕ) where
       && (inRange 1 1000 (segmentLength c b i)
       && (inRange 0 100000 (sinkCapacitance c b i)
       && (inRange 0 255 (sinkWeight c b i)
-      && (sinkOrZero i && (leb (segmentLowest c b i) (segmentHighest c b i) && ltb (segmentHighest c b i) (c .widths)))))))
+      && (sinkOrZero i
+      && (leb (segmentLowest c b i) (segmentHighest c b i) && ltb (segmentHighest c b i) (widthsOf c (segmentLayer c b i))))))))
 
   -- 11. Has every segment without branches a sink?
   unfoldable pub question11 : Bool
@@ -109,6 +125,7 @@ jobQuestions b =
     let c : Counts = countsOf b in
     ask 1 (question1 b)
     ∷ ask 2 (question2 b)
+    ∷ ask 24 (question24 c b)
     ∷ ask 3 (question3 c)
     ∷ ask 4 (question4 c b)
     ∷ ask 5 (question5 c b)

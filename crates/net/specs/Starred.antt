@@ -50,7 +50,7 @@ nineWidths =
 
 -- J1 with a non-zero unnamed byte in its first width, whose resistance is 0.
 abbrev pub strayByte : List ℕ
-strayByte = (1 ∷ 0 ∷ 7 ∷ 0 ∷ littleEndian 4 0 ++ littleEndian 4 2 ++ replicate 4 0) ++ width 1 2 3 ++ size 0 10 3 1 ++ stage 0 0 0 ++ segment 0 0 1 1 5 1 0 1
+strayByte = (1 ∷ 0 ∷ 0 ∷ 7 ∷ littleEndian 4 0 ++ littleEndian 4 2 ++ replicate 4 0) ++ width 1 2 3 ++ size 0 10 3 1 ++ stage 0 0 0 ++ segment 0 0 1 1 5 1 0 1
 
 -- J1 with the resistance of its second width equal to that of its first.
 abbrev pub equalRows : List ℕ

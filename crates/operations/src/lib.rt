@@ -97,7 +97,7 @@ fn refine_at(
     let before = Resistance(upstream[place]);
     let load = Capacitance(driven[place]);
     let ends = refine::settle(job, counts, weight, before, place, load);
-    let own = place::step(job, counts, weight, before, place, sizing[place], load).delay;
+    let own = place::step_at(job, counts, weight, before, place, sizing[place], load).delay;
     EndsAndDelay {
         lowest: ends.lowest,
         highest: ends.highest,

@@ -189,7 +189,7 @@ module _ {input before after : List ℕ} {n : ℕ} {c : Counts} (s : Sized input
   unfolding told
   job-told = rw (le-ltb 65536 (length input) (s .short), is-number)
 
-  -- where there is a reply, the job passes questions 1 to 11, and the counts are its own
+  -- where there is a reply, the job passes its questions, and the counts are its own
   passes : Replied n → refusal input ≡ 0
   passes r = replied-passes input (length before) (rw (s .number) at r) .0
 

@@ -1,28 +1,25 @@
 -- The steps of one place: that each product fits, and that it is what the definitions say.
-use mathlib.Core.Path.{_≡_}
+use mathlib.Core.Path.{_≡_, subst}
 use mathlib.Core.List.{List}
 use Prim.Native.Nat.{ℕ, _+_, _*_, _-_, _^_, _≤_, _<_}
 use native.Mathlib.Nat.{mul-le-mul}
 use native.Mathlib.Omega.{arith}
 use borrow.Author.Tests.{lt-ltb, le-ltb}
 use Rattle.net.specs.declared.Counts.{Counts}
+use Rattle.net.specs.Job.{placesBy, widthsOf, firstRow, segmentLayer}
 use Rattle.net.specs.Net.{Net, netBy}
 use Rattle.net.specs.Checked.{Checked}
 use Rattle.net.specs.Places.{placeWeight, delayAt, loadAt}
 use Rattle.place.specs.declared.PlaceStep.{PlaceStep}
 use Rattle.place.specs.Partial.{StepOf}
 use Rattle.place.specs.Held.{hangsAt, sinkAt, slope}
+use Rattle.place.specs.ByCounts.{rowsAt}
 
 pub through-small : (r q : ℕ) → r ≤ 100000 → q ≤ 26000000 → r * q ≤ 2600000000000
 through-small r q h k = mul-le-mul h k
 
 pub weighted-small : (w d : ℕ) → w ≤ 32640 → d ≤ 2600000000000 → w * d ≤ 84864000000000000
 weighted-small w d h k = mul-le-mul h k
-
--- the figures of a wire of a checked job
-pub wire-small : {c : Counts} {b : List ℕ} (k : Checked c b) (i z : ℕ) → i < c .segments → z < c .widths
-    → (netBy c b .wireResistance i z ≤ 100000) × (netBy c b .wireCapacitance i z ≤ 100000)
-wire-small k i z h l = (mul-le-mul (k .rows z l .0) (k .lengths i h), mul-le-mul (k .rows z l .1) (k .lengths i h))
 
 pub upstream-small : (u l : ℕ) → u ≤ 443904000000 → l ≤ 13000000 → u * l ≤ 5770752000000000000
 upstream-small u l h k = mul-le-mul h k
@@ -43,6 +40,22 @@ module _ (net : Net) (w u k l : ℕ) (r : PlaceStep) where
       record { delay = rw (le-ltb (net .stages + i) (net .stages) h, e) d; load = rw (le-ltb (net .stages + i) (net .stages) h, e) g; fits = f }
 
 -- By cases: a stage, a segment.
+module _ (c : Counts) (b : List ℕ) where
+  pub rows-stage : (p : ℕ) → p < c .stages → rowsAt c b p ≡ 0
+  unfolding rowsAt
+  rows-stage p h = rw (lt-ltb p (c .stages) h)
+
+  pub rows-segment : (p : ℕ) → c .stages ≤ p → rowsAt c b p ≡ firstRow c (segmentLayer c b (p - c .stages))
+  unfolding rowsAt
+  rows-segment p h = rw (le-ltb p (c .stages) h)
+
+-- the index of a segment is one of its layer
+pub width-at : {c : Counts} {b : List ℕ} → Checked c b → (p : ℕ) → c .stages ≤ p → p < placesBy c
+    → netBy c b .highest p < widthsOf c (segmentLayer c b (p - c .stages))
+width-at {c} {b} k p h l =
+    let e : c .stages + (p - c .stages) ≡ p = omega arith in
+    subst (λ q. netBy c b .highest q < widthsOf c (segmentLayer c b (p - c .stages))) e (k .wired (p - c .stages) (omega arith))
+
 module _ (net : Net) where
   pub hangs-stage : (p : ℕ) → p < net .stages → hangsAt net p ≡ p
   unfolding hangsAt

@@ -1,9 +1,11 @@
 -- What the contracts of this crate and of those above it say, of the net of a job, by the counts of its records and its bytes.
 use mathlib.Core.Path.{_≡_}
+use mathlib.Core.Bool.{cond}
 use mathlib.Core.List.{List}
-use Prim.Native.Nat.{ℕ, _+_, _*_, _^_, _≤_, _<_}
+use Prim.Native.Nat.{ℕ, _+_, _*_, _-_, _^_, _≤_, _<_}
+use lib.Dec.{ltb}
 use Rattle.net.specs.declared.Counts.{Counts}
-use Rattle.net.specs.Job.{placesBy}
+use Rattle.net.specs.Job.{placesBy, widthsOf, firstRow, segmentLayer}
 use Rattle.net.specs.Net.{netBy}
 use Rattle.net.specs.Places.{placeWeight}
 use Rattle.place.specs.declared.PlaceStep.{PlaceStep}
@@ -29,6 +31,10 @@ module _ (c : Counts) (b : List ℕ) where
   -- Place p may have the index k, and the load l that it drives is in the limits.
   abbrev pub DriveInLimits : ℕ → ℕ → ℕ → Type 0
   DriveInLimits p k l = (p < placesBy c) × (k ≤ netBy c b .highest p) × (l ≤ 12900000)
+
+  -- Where the table of place p's layer starts; a stage has none.
+  unfoldable pub rowsAt : ℕ → ℕ
+  rowsAt p = cond (ltb p (c .stages)) 0 (firstRow c (segmentLayer c b (p - c .stages)))
 
   -- Place p may have the index k, and has the weight w.
   abbrev pub IndexAndWeight : ℕ → ℕ → ℕ → Type 0
@@ -66,13 +72,12 @@ module _ (c : Counts) (b : List ℕ) where
     abbrev pub Upstream : ℕ → List ℕ → Type 0
     Upstream n upstream = UpstreamTo (netBy c b) lower upper n upstream
 
--- The same limits for a step of stage s to the size k, and of segment i to the width k.
-module _ (c : Counts) where
-  abbrev pub StageInLimits : (w u s k l : ℕ) → Type 0
-  StageInLimits w u s k l = (s < c .stages) × (k < c .sizes) × (w ≤ 32640) × (u ≤ 443904000000) × (l ≤ 12900000)
+-- The same limits for a step of stage s to the size k, and of segment i to the width k of its layer.
+abbrev pub StageInLimits : Counts → (w u s k l : ℕ) → Type 0
+StageInLimits c w u s k l = (s < c .stages) × (k < c .sizes) × (w ≤ 32640) × (u ≤ 443904000000) × (l ≤ 12900000)
 
-  abbrev pub SegmentInLimits : (w u i k l : ℕ) → Type 0
-  SegmentInLimits w u i k l = (i < c .segments) × (k < c .widths) × (w ≤ 32640) × (u ≤ 443904000000) × (l ≤ 12900000)
+abbrev pub SegmentInLimits : Counts → List ℕ → (w u i k l : ℕ) → Type 0
+SegmentInLimits c b w u i k l = (i < c .segments) × (k < widthsOf c (segmentLayer c b i)) × (w ≤ 32640) × (u ≤ 443904000000) × (l ≤ 12900000)
 
 -- A resistance u upstream, a weighted delay d and a load l in the limits.
 abbrev pub ChargeInLimits : (u d l : ℕ) → Type 0

@@ -7,11 +7,11 @@ ghost use mathlib.Core.Path.{_≡_};
 ghost use Prim.Native.Nat.{_+_, _*_, _<_, _≤_};
 ghost use lib.ListN.{length};
 ghost use Rattle.lattice.specs.Lists.{at};
-ghost use Rattle.net.specs.Job.{placesBy};
+ghost use Rattle.net.specs.Job.{firstRow, segmentLayer, placesBy};
 ghost use Rattle.net.specs.Net.{netBy};
 ghost use Rattle.net.specs.Places.{loadAt};
 ghost use Rattle.net.specs.Checked.{Checked, AllowedBy};
-ghost use Rattle.place.specs.ByCounts.{Weighed, HangsAt, SinkAt, DriveInLimits, IndexAndWeight, SlopeAt, StepInLimits, Stepped, Driven, fixedDelay, onwardFrom, upstreamOf, Upstream, StageInLimits, SegmentInLimits, ChargeInLimits, Charged};
+ghost use Rattle.place.specs.ByCounts.{Weighed, HangsAt, SinkAt, DriveInLimits, rowsAt, IndexAndWeight, SlopeAt, StepInLimits, Stepped, Driven, fixedDelay, onwardFrom, upstreamOf, Upstream, StageInLimits, SegmentInLimits, ChargeInLimits, Charged};
 
 // What a place adds at one of its indices: its part of the scaled delay with what its load costs upstream, and the load that it shows.
 pub struct PlaceStep {
@@ -204,21 +204,35 @@ fn stage_step(
     charged_upstream(upstream, own, job::gate(job, counts, k))
 }
 
-// The step of segment i to the width k, where it drives the load `driven`.
+// Where the table of place p's layer starts. A loop over the indices of a place reads its layer once, before it: a stage has none.
+pub fn rows_at(job: &[u8], counts: Counts, p: usize) -> usize
+    requires { ⌜ Checked counts (now job) ⌝ }
+    requires { ⌜ p < placesBy counts ⌝ }
+    ensures { λ r. ⌜ r ≡ rowsAt counts (now (job .entry)) p ⌝ }
+{
+    if p < counts.stages {
+        return 0;
+    }
+    job::first_row(job, counts, p - counts.stages)
+}
+
+// The step of segment i to the width k, where the table of its layer starts at `rows` and it drives the load `driven`.
 fn segment_step(
     job: &[u8],
     counts: Counts,
     weight: u64,
     upstream: Resistance,
     i: usize,
+    rows: usize,
     k: usize,
     driven: Capacitance,
 ) -> PlaceStep
     requires { ⌜ Checked counts (now job) ⌝ }
-    requires { ⌜ SegmentInLimits counts weight (upstream .0) i k (driven .0) ⌝ }
+    requires { ⌜ rows ≡ firstRow counts (segmentLayer counts (now job) i) ⌝ }
+    requires { ⌜ SegmentInLimits counts (now job) weight (upstream .0) i k (driven .0) ⌝ }
     ensures { λ r. ⌜ Stepped counts (now (job .entry)) weight (upstream .0) (counts .stages + i) k (driven .0) r ⌝ }
 {
-    let wire = job::wire_at(job, counts, i, k);
+    let wire = job::wire_from(job, counts, rows, i, k);
     let own = wire.capacitance;
     let resistance = wire.resistance;
     let charged = quantity::charged_twice(own, driven);
@@ -226,28 +240,68 @@ fn segment_step(
     charged_upstream(upstream, delay, quantity::add_capacitance(own, driven))
 }
 
-// The step of place p to the index k, where it has the weight `weight`, the resistance `upstream` before it and the load `driven` behind it.
+// The step of place p to the index k, where it has the weight `weight`, the resistance `upstream` before it and the load `driven` behind it, and
+// the table of its layer starts at `rows`.
 pub fn step_to(
     job: &[u8],
     counts: Counts,
     weight: u64,
     upstream: Resistance,
     p: usize,
+    rows: usize,
     k: usize,
     driven: Capacitance,
 ) -> PlaceStep
     requires { ⌜ Checked counts (now job) ⌝ }
+    requires { ⌜ rows ≡ rowsAt counts (now job) p ⌝ }
     requires { ⌜ StepInLimits counts (now job) weight (upstream .0) p k (driven .0) ⌝ }
     ensures { λ r. ⌜ Stepped counts (now (job .entry)) weight (upstream .0) p k (driven .0) r ⌝ }
 {
     if p < counts.stages {
         return stage_step(job, counts, weight, upstream, p, k, driven);
     }
-    segment_step(job, counts, weight, upstream, p - counts.stages, k, driven)
+    segment_step(
+        job,
+        counts,
+        weight,
+        upstream,
+        p - counts.stages,
+        rows,
+        k,
+        driven,
+    )
 }
 
 // The same, where the index is a byte.
 pub fn step(
+    job: &[u8],
+    counts: Counts,
+    weight: u64,
+    upstream: Resistance,
+    p: usize,
+    rows: usize,
+    k: u8,
+    driven: Capacitance,
+) -> PlaceStep
+    requires { ⌜ Checked counts (now job) ⌝ }
+    requires { ⌜ rows ≡ rowsAt counts (now job) p ⌝ }
+    requires { ⌜ StepInLimits counts (now job) weight (upstream .0) p k (driven .0) ⌝ }
+    ensures { λ r. ⌜ Stepped counts (now (job .entry)) weight (upstream .0) p k (driven .0) r ⌝ }
+{
+    step_to(
+        job,
+        counts,
+        weight,
+        upstream,
+        p,
+        rows,
+        job::index(k),
+        driven,
+    )
+}
+
+// The same, where the layer is read for this one step.
+pub fn step_at(
     job: &[u8],
     counts: Counts,
     weight: u64,
@@ -260,7 +314,8 @@ pub fn step(
     requires { ⌜ StepInLimits counts (now job) weight (upstream .0) p k (driven .0) ⌝ }
     ensures { λ r. ⌜ Stepped counts (now (job .entry)) weight (upstream .0) p k (driven .0) r ⌝ }
 {
-    step_to(job, counts, weight, upstream, p, job::index(k), driven)
+    let rows = rows_at(job, counts, p);
+    step(job, counts, weight, upstream, p, rows, k, driven)
 }
 
 // What the held places add to the delay.
@@ -285,7 +340,7 @@ pub fn fixed_delay(
         p -= 1;
         if lower[p] >= upper[p] {
             let load = Capacitance(driven[p]);
-            let step = step(job, counts, weights[p], Resistance(0), p, lower[p], load);
+            let step = step_at(job, counts, weights[p], Resistance(0), p, lower[p], load);
             sum = quantity::add_delay(sum, step.delay);
         }
     }

@@ -10,16 +10,16 @@ use lib.Dec.{T, leb, ltb, eqb, leb→le, ltb→lt}
 use lib.ListN.{length}
 use Rattle.lattice.proofs.ListLaws.{and-T, every-at}
 use Rattle.net.specs.declared.Counts.{Counts}
-use Rattle.net.specs.Job.{records, countsOf, segmentParent}
+use Rattle.net.specs.Job.{records, countsOf, widthsOf, segmentParent}
 use Rattle.net.specs.Net.{netBy}
-use Rattle.net.specs.Questions.{inRange, question1, question2, question3, question4, question5, question6, question7, question8, question9, question10, question11, Question, ask, firstNo, jobQuestions, refusal}
+use Rattle.net.specs.Questions.{inRange, question1, question2, question24, question3, question4, question5, question6, question7, question8, question9, question10, question11, Question, ask, firstNo, jobQuestions, refusal}
 use Rattle.net.specs.Checked.{Held}
-use Rattle.net.proofs.Records.{records-fill, counts-small, counts-held}
+use Rattle.net.proofs.Records.{records-fill, counts-small, layer0-small, counts-held}
 use Rattle.net.proofs.Questions.{in-range, checked}
 use Rattle.links.specs.Links.{Parents, Linked}
 use Rattle.questions.specs.declared.Outcome.{Outcome}
 use Rattle.runs.specs.Records.{countsTo}
-use Rattle.questions.specs.Check.{CheckOf, Linkable, Asked, questionsFrom7, questionsFrom3, Counted}
+use Rattle.questions.specs.Check.{CheckOf, Linkable, Asked, questionsFrom7, questionsFrom24, Counted}
 
 -- r is the answer to the question q, the first of those that are left: yes, and a later one decides; or no
 pub yes : (m : ℕ) (qs : List Question) {q r : Bool} {n : ℕ} → r ≡ q → not r ≡ false → n ≡ firstNo qs → n ≡ firstNo (ask m q ∷ qs)
@@ -35,19 +35,19 @@ unfolding firstNo
 none = refl
 
 -- What question 3 gives.
-in-counts : (c : Counts) {r : Bool} → r ≡ question3 c → not r ≡ false → (1 ≤ c .widths) × (1 ≤ c .sizes) × (1 ≤ c .stages) × (c .segments ≤ 64)
+in-counts : (c : Counts) {r : Bool} → r ≡ question3 c → not r ≡ false → (1 ≤ c .stages) × (c .segments ≤ 64)
 unfolding question3
 in-counts c {r} e t =
     let y : T (question3 c) = rw (sym e ∙ not-false r t) tt in
-    let w = and-T (inRange 1 8 (c .widths)) _ y in
+    let v = and-T (inRange 1 8 (widthsOf c 0)) _ y in
+    let w = and-T (inRange 0 8 (widthsOf c 1)) _ (v .1) in
     let s = and-T (inRange 1 16 (c .sizes)) _ (w .1) in
     let g = and-T (inRange 1 4 (c .stages)) (inRange 1 64 (c .segments)) (s .1) in
-    (in-range 1 8 _ (w .0) .0, in-range 1 16 _ (s .0) .0, in-range 1 4 _ (g .0) .0, in-range 1 64 _ (g .1) .1)
+    (in-range 1 4 _ (g .0) .0, in-range 1 64 _ (g .1) .1)
 
 pub some-counted : {c : Counts} {b : List ℕ} {r : Bool} → Held c b → r ≡ question3 c → not r ≡ false → Counted c b
 some-counted {c} {b} {r} h e t =
-    let i = in-counts c e t in
-    record { held = h; someWidth = i .0; someSize = i .1; someStage = i .2 }
+    record { held = h; someStage = in-counts c e t .0 }
 
 -- What question 1 gives: there is a record.
 pub some-record : (b : List ℕ) {r : Bool} → r ≡ question1 b → not r ≡ false → 1 ≤ records b
@@ -59,7 +59,7 @@ some-record b {r} e t =
 
 -- Records that are counted by kind are there, and where they are all, the counts are those of the job.
 pub counted-held : (b : List ℕ) (n : ℕ) {c : Counts} → n ≤ records b → c ≡ countsTo b n → Held c b
-counted-held b n h e = rw e record { all = omega (arith, counts-small b n, div-add-mod' (length b) 16) }
+counted-held b n h e = rw e record { all = omega (arith, counts-small b n, div-add-mod' (length b) 16); layers = layer0-small b n }
 
 pub counted-all : (b : List ℕ) (n : ℕ) {c : Counts} → n ≡ records b → c ≡ countsTo b n → c ≡ countsOf b
 unfolding countsOf
@@ -107,10 +107,11 @@ module _ (b : List ℕ) {p : Bool} (one : p ≡ question1 b) where
       abbrev c : Counts
       c = countsOf b
 
-      linkable : firstNo (questionsFrom3 c b) ≡ 0 → Linkable c b
-      unfolding questionsFrom3 questionsFrom7 refusal jobQuestions
+      linkable : firstNo (questionsFrom24 c b) ≡ 0 → Linkable c b
+      unfolding questionsFrom24 questionsFrom7 refusal jobQuestions
       linkable e =
-          let a3 = passed 2 (question3 c) _ e in
+          let a24 = passed 23 (question24 c b) _ e in
+          let a3 = passed 2 (question3 c) _ (a24 .1) in
           let a4 = passed 3 (question4 c b) _ (a3 .1) in
           let a5 = passed 4 (question5 c b) _ (a4 .1) in
           let a6 = passed 5 (question6 c b) _ (a5 .1) in
@@ -121,18 +122,18 @@ module _ (b : List ℕ) {p : Bool} (one : p ≡ question1 b) where
           record {
             counted = refl;
             held = counts-held b;
-            few = in-counts c (a3 .0) refl .3;
+            few = in-counts c (a3 .0) refl .1;
             parents = parents c b (a9 .0);
-            decides = yes _ _ one t (yes _ _ two u (yes _ _ (a3 .0) refl (yes _ _ (a4 .0) refl (yes _ _ (a5 .0) refl (yes _ _ (a6 .0) refl (yes _ _ (a7 .0) refl (yes _ _ (a8 .0) refl (yes _ _ (a9 .0) refl (yes _ _ (a10 .0) refl (last (question11 c b)))))))))));
+            decides = yes _ _ one t (yes _ _ two u (yes _ _ (a24 .0) refl (yes _ _ (a3 .0) refl (yes _ _ (a4 .0) refl (yes _ _ (a5 .0) refl (yes _ _ (a6 .0) refl (yes _ _ (a7 .0) refl (yes _ _ (a8 .0) refl (yes _ _ (a9 .0) refl (yes _ _ (a10 .0) refl (last (question11 c b))))))))))));
           }
 
-      later : (n : ℕ) → n ≡ firstNo (questionsFrom3 c b) → (n ≡ 0 → ⊥) → n ≡ refusal b
-      unfolding questionsFrom3 questionsFrom7 refusal jobQuestions
+      later : (n : ℕ) → n ≡ firstNo (questionsFrom24 c b) → (n ≡ 0 → ⊥) → n ≡ refusal b
+      unfolding questionsFrom24 questionsFrom7 refusal jobQuestions
       later zero e h = absurd (h refl)
-      later (suc n) e h = yes _ _ one t (yes _ _ two u (found (questionsFrom3 c b) (ask 11 (question11 c b) ∷ []) n e))
+      later (suc n) e h = yes _ _ one t (yes _ _ two u (found (questionsFrom24 c b) (ask 11 (question11 c b) ∷ []) n e))
 
-      pub asked-from-3 : (d : Counts) (n m : ℕ) → m ≡ records b → d ≡ countsOf b → n ≡ firstNo (questionsFrom3 d b) → Asked b (record { number = n; records = m; counts = d })
-      asked-from-3 d n m g e f = rw e record { records = g; fails = later n (rw e at f); passes = λ z. linkable (sym (rw e at f) ∙ z) }
+      pub asked-from-24 : (d : Counts) (n m : ℕ) → m ≡ records b → d ≡ countsOf b → n ≡ firstNo (questionsFrom24 d b) → Asked b (record { number = n; records = m; counts = d })
+      asked-from-24 d n m g e f = rw e record { records = g; fails = later n (rw e at f); passes = λ z. linkable (sym (rw e at f) ∙ z) }
 
 -- Where question 1 passes, the records that were counted fill the job.
 filled : {b : List ℕ} {r : Outcome} → Asked b r → question1 b ≡ true → 16 * r .records ≡ length b

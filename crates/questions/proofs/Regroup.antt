@@ -1,20 +1,22 @@
 -- The tests that the code asks of one run after another, put together to the questions as they are defined.
-use mathlib.Core.Path.{_≡_, _∙_, sym, ap, ap₂}
-use mathlib.Core.Bool.{Bool, true, _&&_}
+use mathlib.Core.Path.{_≡_, _∙_, refl, sym, ap, ap₂}
+use mathlib.Core.Bool.{Bool, true, false, not, cond, _&&_, _||_, and-true, or-true}
 use mathlib.Core.List.{List}
-use Prim.Native.Nat.{ℕ, suc, _+_, _*_, _-_, _%_, _≤_}
+use Prim.Native.Nat.{ℕ, zero, suc, _+_, _*_, _-_, _%_, _≤_, _<_}
 use native.Mathlib.Nat.{zero-add, add-zero, add-assoc, div-add-mod'}
 use native.Mathlib.Decide.{ℕ-discrete}
-use native.Mathlib.Numerals.{add-one, one-add}
+use native.Mathlib.Numerals.{add-one}
 use native.Mathlib.Omega.{arith}
-use borrow.Author.Tests.{le-leb, eq-eqb, ne-eqb}
-use lib.Dec.{ltb, eqb, leb·zero}
+use borrow.Author.Tests.{le-leb, lt-leb, lt-ltb, le-ltb, eq-eqb, ne-eqb}
+use lib.Dec.{leb, ltb, eqb, leb·zero}
 use lib.ListN.{length}
 use Rattle.lattice.specs.Lists.{every}
 use Rattle.net.specs.declared.Counts.{Counts}
-use Rattle.net.specs.Job.{byte, records, segmentAt}
-use Rattle.net.specs.Questions.{inRange, question1, question2, question4, zeros, sinkOrZero, question5, question6, question7, question8, question9, question10}
-use Rattle.runs.specs.Records.{byteOf, kindInOrder, numberInOrder, zeroBytes, byteWithin, wordWithin, wordBelow, rangeWithin, parentInOrder, sinkOrNone}
+use Rattle.net.specs.Job.{byte, records, widthAt, widthLayer, widthsOf, firstRow, segmentAt, segmentLayer}
+use Rattle.net.specs.Questions.{inRange, question1, question2, question24, question3, question4, zeros, sinkOrZero, question5, question6, question7, question8, question9, question10}
+use Rattle.runs.specs.Records.{byteOf, byteInOrder, numberInOrder, zeroBytes, byteWithin, wordWithin, wordBelow, rangeWithin, widthsWithin, parentInOrder, sinkOrNone}
+use Rattle.net.proofs.Records.{layer-0, layer-1}
+use Rattle.questions.specs.Check.{topLayer, tableInOrder}
 use Rattle.questions.proofs.Zeros.{zero-word, zero-words}
 use Rattle.lattice.proofs.Every.{every-and, every-same}
 
@@ -35,27 +37,90 @@ module _ (b : List ℕ) where
       go (yes z) = rw (eq-eqb (16 * n) (length b) (omega (arith, div-add-mod' (length b) 16)), eq-eqb (_%_ (length b) 16) 0 z)
       go (no z) = rw (ne-eqb (16 * n) (length b) (λ f. z (omega (arith, div-add-mod' (length b) 16))), ne-eqb (_%_ (length b) 16) 0 z)
 
-  pub question2-by : (n : ℕ) {p q : Bool} → n ≡ records b → p ≡ every n (byteWithin b 0 0 1 4) → q ≡ every (n - 1) (kindInOrder b) → p && q ≡ question2 b
+  pub question2-by : (n : ℕ) {p q : Bool} → n ≡ records b → p ≡ every n (byteWithin b 0 0 1 4) → q ≡ every (n - 1) (byteInOrder b 0) → p && q ≡ question2 b
   unfolding question2
-  question2-by n m e f = both (rw m at e ∙ every-same _ _ _ (λ k h. rw (add-zero (16 * (0 + k)), zero-add k))) (rw m at f ∙ every-same _ _ _ (λ k h. rw (add-one k)))
+  question2-by n m e f =
+      both (rw m at e ∙ every-same _ _ _ (λ k h. rw (add-zero (16 * (0 + k)), zero-add k)))
+      (rw m at f ∙ every-same _ _ _ (λ k h. rw (add-one k, zero-add k, zero-add (suc k), add-zero (16 * k), add-zero (16 * suc k))))
+
+  pub table-empty : (start n : ℕ) → n ≡ 0 → true ≡ every (n - 1) (tableInOrder b start)
+  unfolding every
+  table-empty start n e = rw e refl
+
+  pub table-by : (start n : ℕ) {p q : Bool} → p ≡ every (n - 1) (wordBelow b (start + 1) start 4) → q ≡ every (n - 1) (wordBelow b start (start + 1) 8)
+      → p && q ≡ every (n - 1) (tableInOrder b start)
+  table-by start n d e = two _ _ _ d e ∙ every-same _ _ _ (λ k l. let m : start + 1 + k ≡ start + suc k = omega arith in rw m)
+
+-- Layer 1 has widths exactly where those of layer 0 are not all.
+module _ (c : Counts) where
+  others : widthsOf c 1 ≡ c .widths - c .layer0
+  others = layer-1 c 1 (λ e. omega (arith, e)) .0
+
+  pub top-1 : c .layer0 < c .widths → 1 ≡ topLayer c
+  top-1 h = let l : 0 < widthsOf c 1 = omega (arith, others) in rw (lt-ltb 0 (widthsOf c 1) l)
+
+  pub top-0 : c .widths ≤ c .layer0 → 0 ≡ topLayer c
+  top-0 h = let l : widthsOf c 1 ≤ 0 = omega (arith, others) in rw (le-ltb 0 (widthsOf c 1) l)
+
+  pub question3-by : (s : Bool) → s ≡ inRange 1 16 (c .sizes) && (inRange 1 4 (c .stages) && inRange 1 64 (c .segments))
+      → inRange 1 8 (c .layer0) && (leb (c .widths - c .layer0) 8 && s) ≡ question3 c
+  unfolding question3
+  question3-by s e = rw (layer-0 c .0, others, leb·zero (c .widths - c .layer0), e)
+
+-- a layer byte is at most the highest layer that has widths: it is 0 or 1, and 1 only where there are
+named-layer : (z : Bool) (l : ℕ) → inRange 0 (cond z 1 0) l ≡ inRange 0 1 l && (not (eqb l 1) || z)
+named-layer true l = rw (or-true (not (eqb l 1)), and-true (inRange 0 1 l))
+named-layer false zero = refl
+named-layer false (suc zero) = refl
+named-layer false (suc (suc l)) = rw (leb·zero (suc (suc l)), lt-leb (suc (suc l)) 0 (omega arith), lt-leb (suc (suc l)) 1 (omega arith))
+
+-- two tests of one run, with another between them
+between : {p q r s t : Bool} (u v : Bool) → p ≡ s → q ≡ t → r ≡ u && v → p && (q && r) ≡ s && (u && (t && v))
+between {p} {q} {r} {s} {t} u v e f g = both e (both f g ∙ exchange t u v)
+  where
+    exchange : (t u v : Bool) → t && (u && v) ≡ u && (t && v)
+    exchange true u v = refl
+    exchange false true v = refl
+    exchange false false v = refl
+
+-- a test of both layers
+both-layers : (f : ℕ → Bool) (p q : Bool) → p ≡ f 0 → q ≡ f 1 → p && q ≡ every 2 f
+unfolding every
+both-layers f p q e g = rw (sym e, sym g) (swapped p q)
+  where
+    swapped : (p q : Bool) → p && q ≡ q && (p && true)
+    swapped true q = sym (and-true q)
+    swapped false true = refl
+    swapped false false = refl
 
 module _ (c : Counts) (b : List ℕ) where
-  pub question4-by : {p q r s : Bool} → p ≡ every (c .widths) (numberInOrder b 0) → q ≡ every (c .sizes) (numberInOrder b (c .widths))
-      → r ≡ every (c .stages) (numberInOrder b (c .widths + c .sizes)) → s ≡ every (c .segments) (numberInOrder b (c .widths + c .sizes + c .stages))
-      → p && (q && (r && s)) ≡ question4 c b
-  unfolding question4
-  question4-by d e f g = both (d ∙ every-same _ _ _ (λ k h. rw (zero-add k))) (both e (both f (g ∙ every-same _ _ _ (λ k h. rw (add-assoc (c .widths + c .sizes) (c .stages) k)))))
+  pub question24-by : (t : ℕ) {p q r : Bool} → t ≡ topLayer c → p ≡ every (c .widths) (byteWithin b 0 2 0 1) → q ≡ every (c .widths - 1) (byteInOrder b 2)
+      → r ≡ every (c .segments) (byteWithin b (c .widths + c .sizes + c .stages) 15 0 t) → p && (q && r) ≡ question24 c b
+  unfolding question24
+  question24-by t {p} {q} {r} d e f g =
+      let known : p ≡ every (c .widths) (λ k. inRange 0 1 (widthLayer b k)) = e ∙ every-same _ _ _ (λ k h. rw (zero-add k)) in
+      let stays : q ≡ every (c .widths - 1) (λ k. leb (widthLayer b k) (widthLayer b (suc k))) = f ∙ every-same _ _ _ (λ k h. rw (add-one k, zero-add k, zero-add (suc k))) in
+      let layers : r ≡ every (c .segments) (λ i. inRange 0 1 (segmentLayer c b i) && (not (eqb (segmentLayer c b i) 1) || ltb 0 (widthsOf c 1))) =
+      g ∙ every-same _ _ _ (λ i h. rw (d, add-assoc (c .widths + c .sizes) (c .stages) i) (named-layer (ltb 0 (widthsOf c 1)) (segmentLayer c b i))) in
+      between (every (c .segments) (λ i. inRange 0 1 (segmentLayer c b i))) (every (c .segments) (λ i. not (eqb (segmentLayer c b i) 1) || ltb 0 (widthsOf c 1)))
+      known stays (layers ∙ every-and (c .segments) _ _)
 
-  pub question5-by : {p q r s t u v : Bool} → p ≡ every (c .widths) (zeroBytes b 0 2 2) → q ≡ every (c .widths) (wordWithin b 0 12 0 0)
+  pub question4-by : {p q r s t : Bool} → p ≡ every (c .layer0) (numberInOrder b 0) → q ≡ every (c .widths - c .layer0) (numberInOrder b (c .layer0))
+      → r ≡ every (c .sizes) (numberInOrder b (c .widths)) → s ≡ every (c .stages) (numberInOrder b (c .widths + c .sizes))
+      → t ≡ every (c .segments) (numberInOrder b (c .widths + c .sizes + c .stages)) → p && q && (r && (s && t)) ≡ question4 c b
+  unfolding question4
+  question4-by {p} {q} d e f g h =
+      both (both-layers (λ l. every (widthsOf c l) (λ k. eqb (byte b (widthAt (firstRow c l + k) + 1)) k)) p q (rw (layer-0 c .0, layer-0 c .1) d) (rw (others c, layer-1 c 1 (λ z. omega (arith, z)) .1) e))
+      (both f (both g (h ∙ every-same _ _ _ (λ k l. rw (add-assoc (c .widths + c .sizes) (c .stages) k)))))
+
+  pub question5-by : {p q r s t u : Bool} → p ≡ every (c .widths) (zeroBytes b 0 3 1) → q ≡ every (c .widths) (wordWithin b 0 12 0 0)
       → r ≡ every (c .sizes) (zeroBytes b (c .widths) 2 2) → s ≡ every (c .stages) (wordWithin b (c .widths + c .sizes) 4 0 0)
       → t ≡ every (c .stages) (wordWithin b (c .widths + c .sizes) 8 0 0) → u ≡ every (c .stages) (wordWithin b (c .widths + c .sizes) 12 0 0)
-      → v ≡ every (c .segments) (zeroBytes b (c .widths + c .sizes + c .stages) 15 1) → p && q && (r && (s && (t && u) && v)) ≡ question5 c b
+      → p && q && (r && (s && (t && u))) ≡ question5 c b
   unfolding question5 zeros
-  question5-by d e f g h i j =
+  question5-by d e f g h i =
       both (two _ _ _ d (e ∙ every-same _ _ _ (λ k m. zero-word b 0 12 k)) ∙ every-same _ _ _ (λ k m. rw (zero-add k)))
-      (both f
-      (both (two _ _ _ g (two _ _ _ h i) ∙ every-same _ _ _ (λ k m. zero-words b (c .widths + c .sizes) k))
-      (j ∙ every-same _ _ _ (λ k m. rw (add-assoc (c .widths + c .sizes) (c .stages) k)))))
+      (both f (two _ _ _ g (two _ _ _ h i) ∙ every-same _ _ _ (λ k m. zero-words b (c .widths + c .sizes) k)))
 
   pub question6-by : {p q r s t : Bool} → p ≡ every (c .widths) (wordWithin b 0 4 1 100) → q ≡ every (c .widths) (wordWithin b 0 8 1 100)
       → r ≡ every (c .sizes) (wordWithin b (c .widths) 4 1 100000) → s ≡ every (c .sizes) (wordWithin b (c .widths) 8 1 100000)
@@ -63,13 +128,11 @@ module _ (c : Counts) (b : List ℕ) where
   unfolding question6
   question6-by d e f g h = both (two _ _ _ d e ∙ every-same _ _ _ (λ k l. rw (zero-add k))) (two _ _ _ f (two _ _ _ g h))
 
-  pub question7-by : {p q r s : Bool} → p ≡ every (c .widths - 1) (wordBelow b 1 0 4) → q ≡ every (c .widths - 1) (wordBelow b 0 1 8)
-      → r ≡ every (c .sizes - 1) (wordBelow b (c .widths + 1) (c .widths) 4) → s ≡ every (c .sizes - 1) (wordBelow b (c .widths) (c .widths + 1) 8)
-      → p && q && (r && s) ≡ question7 c b
+  pub question7-by : {p q r : Bool} → p ≡ every (c .layer0 - 1) (tableInOrder b 0) → q ≡ every (c .widths - c .layer0 - 1) (tableInOrder b (c .layer0))
+      → r ≡ every (c .sizes - 1) (tableInOrder b (c .widths)) → p && q && r ≡ question7 c b
   unfolding question7
-  question7-by d e f g =
-      both (two _ _ _ d e ∙ every-same _ _ _ (λ k l. rw (zero-add k, one-add k)))
-      (two _ _ _ f g ∙ every-same _ _ _ (λ k l. let m : c .widths + 1 + k ≡ c .widths + suc k = omega arith in rw m))
+  question7-by {p} {q} d e f =
+      both (both-layers (λ l. every (widthsOf c l - 1) (tableInOrder b (firstRow c l))) p q (rw (layer-0 c .0, layer-0 c .1) d) (rw (others c, layer-1 c 1 (λ z. omega (arith, z)) .1) e)) f
 
   pub question8-by : {p : Bool} {l h : ℕ} → p ≡ every (c .stages) (rangeWithin b (c .widths + c .sizes) 2 (c .sizes))
       → l ≡ byteOf b (c .widths + c .sizes) 2 0 → h ≡ byteOf b (c .widths + c .sizes) 3 0 → p && eqb l h ≡ question8 c b
@@ -84,7 +147,7 @@ module _ (c : Counts) (b : List ℕ) where
       → q ≡ every (c .segments) (wordWithin b (c .widths + c .sizes + c .stages) 4 1 1000)
       → r ≡ every (c .segments) (wordWithin b (c .widths + c .sizes + c .stages) 8 0 100000)
       → s ≡ every (c .segments) (sinkOrNone b (c .widths + c .sizes + c .stages))
-      → t ≡ every (c .segments) (rangeWithin b (c .widths + c .sizes + c .stages) 13 (c .widths))
+      → t ≡ every (c .segments) (widthsWithin b c (c .widths + c .sizes + c .stages))
       → p && (q && (r && (s && t))) ≡ question10 c b
   unfolding question10 sinkOrZero
   question10-by small d e f g h =

@@ -1,13 +1,14 @@
 -- What the contracts of `check` and of its parts say.
 use mathlib.Core.Path.{_≡_}
-use mathlib.Core.Bool.{true, cond}
+use mathlib.Core.Bool.{Bool, true, cond, _&&_}
 use mathlib.Core.List.{List, [], _∷_}
-use Prim.Native.Nat.{ℕ, _*_, _≤_, _<_}
+use Prim.Native.Nat.{ℕ, suc, _+_, _*_, _≤_, _<_}
+use lib.Dec.{ltb}
 use lib.ListN.{length, getD}
 use Rattle.net.specs.declared.Counts.{Counts}
-use Rattle.net.specs.Job.{records, countsOf}
+use Rattle.net.specs.Job.{records, countsOf, widthsOf, rowResistance, rowCapacitance}
 use Rattle.net.specs.Net.{Net, netBy}
-use Rattle.net.specs.Questions.{question1, question3, question4, question5, question6, question7, question8, question9, question10, question11, Question, ask, refusal}
+use Rattle.net.specs.Questions.{question1, question24, question3, question4, question5, question6, question7, question8, question9, question10, question11, Question, ask, refusal}
 use Rattle.net.specs.Checked.{Held, Checked}
 use Rattle.links.specs.Links.{Parents, First, Linked}
 use Rattle.questions.specs.declared.Outcome.{Outcome}
@@ -21,7 +22,7 @@ pub record CheckOf (job : List ℕ) (r : Outcome) (first next : List ℕ) : Type
   pub passed : r .number ≡ 0 → Checked (r .counts) job
   pub linked : r .number ≡ 0 → Linked (netBy (r .counts) job) first next
 
--- The job passes questions 1 to 10: what linking asks, and that question 11 decides.
+-- The job passes questions 1 to 10 and 24: what linking asks, and that question 11 decides.
 pub record Linkable (c : Counts) (b : List ℕ) : Type 0 where
   pub counted : c ≡ countsOf b
   pub held : Held c b
@@ -29,24 +30,31 @@ pub record Linkable (c : Counts) (b : List ℕ) : Type 0 where
   pub parents : Parents (netBy c b)
   pub decides : cond (question11 c b) 0 11 ≡ refusal b
 
--- The number is that of the first question that the job fails, or 0 where it passes 1 to 10; the count is that of the job's records.
+-- The number is that of the first question that the job fails, or 0 where it passes 1 to 10 and 24; the count is that of the job's records.
 pub record Asked (job : List ℕ) (r : Outcome) : Type 0 where
   pub records : r .records ≡ records job
   pub fails : (r .number ≡ 0 → ⊥) → r .number ≡ refusal job
   pub passes : r .number ≡ 0 → Linkable (r .counts) job
 
--- Questions 7 to 10, and before them 3 to 6: those that need the counts and no links.
+-- Questions 7 to 10, and before them 24 and 3 to 6: those that need the counts and no links.
 unfoldable pub questionsFrom7 : Counts → List ℕ → List Question
 questionsFrom7 c b = ask 7 (question7 c b) ∷ ask 8 (question8 c b) ∷ ask 9 (question9 c b) ∷ ask 10 (question10 c b) ∷ []
 
-unfoldable pub questionsFrom3 : Counts → List ℕ → List Question
-questionsFrom3 c b = ask 3 (question3 c) ∷ ask 4 (question4 c b) ∷ ask 5 (question5 c b) ∷ ask 6 (question6 c b) ∷ questionsFrom7 c b
+unfoldable pub questionsFrom24 : Counts → List ℕ → List Question
+questionsFrom24 c b = ask 24 (question24 c b) ∷ ask 3 (question3 c) ∷ ask 4 (question4 c b) ∷ ask 5 (question5 c b) ∷ ask 6 (question6 c b) ∷ questionsFrom7 c b
 
--- The records that are counted are there, and at least one width, one size and one stage.
+-- The highest layer that has widths.
+abbrev pub topLayer : Counts → ℕ
+topLayer c = cond (ltb 0 (widthsOf c 1)) 1 0
+
+-- Does record k of the table that starts at the record `start` have a larger resistance and a smaller capacitance than the next? Widths and driver
+-- sizes have them at the same offsets: a driver size has its gate's.
+abbrev pub tableInOrder : List ℕ → ℕ → ℕ → Bool
+tableInOrder b start k = ltb (rowResistance b (start + suc k)) (rowResistance b (start + k)) && ltb (rowCapacitance b (start + k)) (rowCapacitance b (start + suc k))
+
+-- The records that are counted are there, and at least one stage.
 pub record Counted (c : Counts) (b : List ℕ) : Type 0 where
   pub held : Held c b
-  pub someWidth : 1 ≤ c .widths
-  pub someSize : 1 ≤ c .sizes
   pub someStage : 1 ≤ c .stages
 
 -- `first` has the first segment at each node.

@@ -1,14 +1,16 @@
-// Questions 1 to 11, asked of a job of any length, in time linear in it. Within a question all tests are asked, by `&`: a proof then has one way
+// Questions 1 to 11 and 24, asked of a job of any length, in time linear in it. Within a question all tests are asked, by `&`: a proof then has one way
 // through it.
 use net::Counts;
 ghost use mathlib.Core.Path.{_≡_};
-ghost use Prim.Native.Nat.{_<_, _≤_};
+ghost use Prim.Native.Nat.{_-_, _<_, _≤_};
 ghost use lib.ListN.{length};
+ghost use Rattle.lattice.specs.Lists.{every};
 ghost use Rattle.net.specs.Job.{records};
 ghost use Rattle.net.specs.Net.{netBy};
-ghost use Rattle.net.specs.Questions.{question1, question2, question3, question4, question5, question6, question7, question8, question9, question10, question11, firstNo};
+ghost use Rattle.net.specs.Questions.{question1, question2, question24, question3, question4, question5, question6, question7, question8, question9, question10, question11, firstNo};
 ghost use Rattle.net.specs.Checked.{Held};
-ghost use Rattle.questions.specs.Check.{CheckOf, Asked, questionsFrom7, questionsFrom3, Counted, Firsts};
+ghost use Rattle.runs.specs.Records.{HasRun};
+ghost use Rattle.questions.specs.Check.{CheckOf, Asked, topLayer, tableInOrder, questionsFrom7, questionsFrom24, Counted, Firsts};
 
 // The number of the first question that a job fails, 0 where it passes all; the count of its records; and, where it passes all, their counts by
 // kind.
@@ -32,32 +34,59 @@ fn question2(job: &[u8], n: usize) -> bool
     ensures { λ r. ⌜ r ≡ question2 (now (job .entry)) ⌝ }
 {
     let known = runs::bytes_within(job, 0, n, 0, 1, 4);
-    let stays = runs::kinds_in_order(job, n - 1);
+    let stays = runs::bytes_in_order(job, 0, n);
     known & stays
 }
 
-// Question 3: is each kind's count in its range?
+// The highest layer that has widths.
+fn top_layer(counts: Counts) -> usize
+    ensures { λ r. ⌜ r ≡ topLayer counts ⌝ }
+{
+    if counts.layer0 < counts.widths {
+        return 1;
+    }
+    0
+}
+
+// Question 24: is every layer byte 0 or 1, does the layer never fall from one width to the next, and has layer 1 a width where a segment names it?
+// A segment's layer is then at most the highest that has widths.
+fn question24(job: &[u8], counts: Counts) -> bool
+    requires { ⌜ Held counts (now job) ⌝ }
+    ensures { λ r. ⌜ r ≡ question24 counts (now (job .entry)) ⌝ }
+{
+    let start = counts.widths + counts.sizes + counts.stages;
+    let top = top_layer(counts);
+    let known = runs::bytes_within(job, 0, counts.widths, 2, 0, 1);
+    let stays = runs::bytes_in_order(job, 2, counts.widths);
+    let named = runs::bytes_within(job, start, counts.segments, 15, 0, top);
+    known & (stays & named)
+}
+
+// Question 3: is each kind's count in its range, that of widths in each layer?
 fn question3(counts: Counts) -> bool
+    requires { ⌜ counts .layer0 ≤ counts .widths ⌝ }
     ensures { λ r. ⌜ r ≡ question3 counts ⌝ }
 {
-    let widths = (1 <= counts.widths) & (counts.widths <= 8);
+    let first = (1 <= counts.layer0) & (counts.layer0 <= 8);
+    let second = counts.widths - counts.layer0 <= 8;
     let sizes = (1 <= counts.sizes) & (counts.sizes <= 16);
     let stages = (1 <= counts.stages) & (counts.stages <= 4);
     let segments = (1 <= counts.segments) & (counts.segments <= 64);
-    widths & (sizes & (stages & segments))
+    first & (second & (sizes & (stages & segments)))
 }
 
-// Question 4: do numbers count from 0 in each kind?
+// Question 4: do numbers count from 0 in each kind, those of widths in each layer?
 fn question4(job: &[u8], counts: Counts) -> bool
     requires { ⌜ Held counts (now job) ⌝ }
     ensures { λ r. ⌜ r ≡ question4 counts (now (job .entry)) ⌝ }
 {
     let places = counts.widths + counts.sizes;
-    let widths = runs::numbers_in_order(job, 0, counts.widths);
+    let first = runs::numbers_in_order(job, 0, counts.layer0);
+    let second = runs::numbers_in_order(job, counts.layer0, counts.widths - counts.layer0);
     let sizes = runs::numbers_in_order(job, counts.widths, counts.sizes);
     let stages = runs::numbers_in_order(job, places, counts.stages);
     let segments = runs::numbers_in_order(job, places + counts.stages, counts.segments);
-    widths & (sizes & (stages & segments))
+    (first & second) & (sizes & (stages & segments))
 }
 
 // Question 5: are all unnamed bytes zero?
@@ -66,15 +95,14 @@ fn question5(job: &[u8], counts: Counts) -> bool
     ensures { λ r. ⌜ r ≡ question5 counts (now (job .entry)) ⌝ }
 {
     let places = counts.widths + counts.sizes;
-    let before = runs::bytes_zero(job, 0, counts.widths, 2, 2);
+    let before = runs::bytes_zero(job, 0, counts.widths, 3, 1);
     let behind = runs::words_within(job, 0, counts.widths, 12, 0, 0);
     let sizes = runs::bytes_zero(job, counts.widths, counts.sizes, 2, 2);
     let second = runs::words_within(job, places, counts.stages, 4, 0, 0);
     let third = runs::words_within(job, places, counts.stages, 8, 0, 0);
     let fourth = runs::words_within(job, places, counts.stages, 12, 0, 0);
-    let segments = runs::bytes_zero(job, places + counts.stages, counts.segments, 15, 1);
     let stages = second & (third & fourth);
-    (before & behind) & (sizes & (stages & segments))
+    (before & behind) & (sizes & stages)
 }
 
 // Question 6: are the values of kinds 1 and 2 in range?
@@ -90,18 +118,29 @@ fn question6(job: &[u8], counts: Counts) -> bool
     (resistances & capacitances) & (drivers & (gates & outputs))
 }
 
-// Question 7: in each of the two tables, does resistance strictly fall, and do width capacitance and gate capacitance strictly rise?
+// Does resistance strictly fall and capacitance strictly rise along the table of `count` records from `start` on?
+fn table_in_order(job: &[u8], start: usize, count: usize) -> bool
+    requires { ⌜ HasRun (now job) start count ⌝ }
+    ensures { λ r. ⌜ r ≡ every (count - 1) (tableInOrder (now (job .entry)) start) ⌝ }
+{
+    if count == 0 {
+        return true;
+    }
+    let falls = runs::words_below(job, start + 1, start, count - 1, 4);
+    let rises = runs::words_below(job, start, start + 1, count - 1, 8);
+    falls & rises
+}
+
+// Question 7: in each table, that of each layer and that of the driver sizes, does resistance strictly fall, and do width capacitance and gate
+// capacitance strictly rise?
 fn question7(job: &[u8], counts: Counts) -> bool
-    requires { ⌜ Counted counts (now job) ⌝ }
+    requires { ⌜ Held counts (now job) ⌝ }
     ensures { λ r. ⌜ r ≡ question7 counts (now (job .entry)) ⌝ }
 {
-    let first = counts.widths;
-    let second = counts.widths + 1;
-    let resistances = runs::words_below(job, 1, 0, counts.widths - 1, 4);
-    let capacitances = runs::words_below(job, 0, 1, counts.widths - 1, 8);
-    let drivers = runs::words_below(job, second, first, counts.sizes - 1, 4);
-    let gates = runs::words_below(job, first, second, counts.sizes - 1, 8);
-    (resistances & capacitances) & (drivers & gates)
+    let first = table_in_order(job, 0, counts.layer0);
+    let second = table_in_order(job, counts.layer0, counts.widths - counts.layer0);
+    let sizes = table_in_order(job, counts.widths, counts.sizes);
+    (first & second) & sizes
 }
 
 // Question 8: is every stage's lowest ≤ highest < count of sizes, with both equal for stage 0?
@@ -128,8 +167,8 @@ fn question9(job: &[u8], counts: Counts) -> bool
     )
 }
 
-// Question 10: are segment fields in range, capacitance and weight 0 where there is no sink, and lowest ≤ highest < count of widths?
-// A weight is a byte, so it is at most 255.
+// Question 10: are segment fields in range, capacitance and weight 0 where there is no sink, and lowest ≤ highest < count of widths of its
+// layer? A weight is a byte, so it is at most 255.
 fn question10(job: &[u8], counts: Counts) -> bool
     requires { ⌜ Held counts (now job) ⌝ }
     ensures { λ r. ⌜ r ≡ question10 counts (now (job .entry)) ⌝ }
@@ -140,7 +179,7 @@ fn question10(job: &[u8], counts: Counts) -> bool
     let lengths = runs::words_within(job, start, count, 4, 1, 1000);
     let capacitances = runs::words_within(job, start, count, 8, 0, 100000);
     let none = runs::sinks_or_none(job, start, count);
-    let ranges = runs::ranges_within(job, start, count, 13, counts.widths);
+    let ranges = runs::widths_within(job, counts, start, count);
     sinks & (lengths & (capacitances & (none & ranges)))
 }
 
@@ -174,11 +213,14 @@ fn questions_from_7(job: &[u8], counts: Counts) -> usize
     0
 }
 
-// The number of the first of questions 3 to 10 that a job fails, 0 where it passes them.
-fn questions_from_3(job: &[u8], counts: Counts) -> usize
+// The number of the first of questions 24 and 3 to 10 that a job fails, 0 where it passes them.
+fn questions_from_24(job: &[u8], counts: Counts) -> usize
     requires { ⌜ Held counts (now job) ⌝ }
-    ensures { λ r. ⌜ r ≡ firstNo (questionsFrom3 counts (now (job .entry))) ⌝ }
+    ensures { λ r. ⌜ r ≡ firstNo (questionsFrom24 counts (now (job .entry))) ⌝ }
 {
+    if !question24(job, counts) {
+        return 24;
+    }
     if !question3(counts) {
         return 3;
     }
@@ -203,6 +245,7 @@ fn uncounted(number: usize, n: usize) -> Outcome
         records: n,
         counts: Counts {
             widths: 0,
+            layer0: 0,
             sizes: 0,
             stages: 0,
             segments: 0,
@@ -210,7 +253,7 @@ fn uncounted(number: usize, n: usize) -> Outcome
     }
 }
 
-// The number of the first of questions 1 to 10 that a job fails, 0 where it passes them; the count of its records; and, where it passes them,
+// The number of the first of questions 1 to 10 and 24 that a job fails, 0 where it passes them; the count of its records; and, where it passes them,
 // their counts by kind. The length is divided here and nowhere else.
 fn questions_from_1(job: &[u8]) -> Outcome
     ensures { λ r. ⌜ Asked (now (job .entry)) r ⌝ }
@@ -223,7 +266,7 @@ fn questions_from_1(job: &[u8]) -> Outcome
         return uncounted(2, records);
     }
     let counts = runs::count(job, records);
-    let number = questions_from_3(job, counts);
+    let number = questions_from_24(job, counts);
     Outcome {
         number: number,
         records: records,

@@ -28,12 +28,22 @@ pub fn settle(
     requires { ⌜ SettleInLimits counts weight (upstream .0) place (driven .0) ⌝ }
     ensures { λ r. ⌜ Settled (netBy counts (now (job .entry))) weight (upstream .0) place (driven .0) r ⌝ }
 {
+    let rows = place::rows_at(job, counts, place);
     let top = job::index(job::highest(job, counts, place));
     let mut lowest = job::index(job::lowest(job, counts, place));
     let mut highest = lowest;
-    let mut least = place::step_to(job, counts, weight, upstream, place, lowest, driven).delay;
+    let mut least = place::step_to(
+        job,
+        counts,
+        weight,
+        upstream,
+        place,
+        rows,
+        lowest,
+        driven,
+    ).delay;
     for k in lowest + 1..top + 1 {
-        let cost = place::step_to(job, counts, weight, upstream, place, k, driven).delay;
+        let cost = place::step_to(job, counts, weight, upstream, place, rows, k, driven).delay;
         if cost.0 < least.0 {
             least = cost;
             lowest = k;

@@ -1,8 +1,9 @@
--- Where the kinds of records never fall, the records of a kind are one run, and their count is its length.
+-- Where the kinds of records never fall, the records of a kind are one run, and their count is its length; all widths are in the first run.
 use mathlib.Core.Path.{_≡_, _∙_, refl, sym}
-use mathlib.Core.Bool.{Bool, false, not, cond}
+use mathlib.Core.Bool.{Bool, false, not, _&&_}
 use mathlib.Core.List.{List}
-use Prim.Native.Nat.{ℕ, zero, suc, _+_, _-_, _≤_, _<_}
+use Prim.Native.Nat.{ℕ, suc, _+_, _-_, _≤_, _<_}
+use native.Mathlib.Numerals.{add-one}
 use native.Mathlib.Decide.{decLe}
 use native.Mathlib.Omega.{arith}
 use borrow.Author.Tests.{not-false, ne-eqb, eq-eqb}
@@ -10,20 +11,12 @@ use lib.Dec.{leb, eqb, leb→le}
 use Rattle.lattice.specs.Lists.{every}
 use Rattle.lattice.proofs.ListLaws.{and-T, every-at}
 use Rattle.net.specs.declared.Counts.{Counts}
-use Rattle.net.specs.Job.{records, kind, count}
+use Rattle.net.specs.Job.{records, kind, countIf, count, countLayer0, widthLayer}
 use Rattle.net.specs.Questions.{inRange, question2}
+use Rattle.net.proofs.Records.{never-falls, counts-none, counts-each, counts-alike}
 use Rattle.net.proofs.Questions.{in-range}
 use Rattle.runs.specs.Kinds.{Kinds, UpTo, Ends}
-use Rattle.runs.specs.Records.{countsTo}
-
--- A number that no step lets fall, up to the place n - 1, is nowhere above a later one.
-never-falls : (f : ℕ → ℕ) (n : ℕ) → ((k : ℕ) → k < n - 1 → f k ≤ f (suc k)) → (j k : ℕ) → j ≤ k → k < n → f j ≤ f k
-never-falls f n s j zero l h = let e : j ≡ 0 = omega arith in rw e (omega arith)
-never-falls f n s j (suc k) l h = go (decLe j k) (λ m. never-falls f n s j k m (omega arith))
-  where
-    go : Dec (j ≤ k) → (j ≤ k → f j ≤ f k) → f j ≤ f (suc k)
-    go (yes m) r = omega (arith, r m, s k (omega arith))
-    go (no m) r = let e : j ≡ suc k = omega arith in rw e (omega arith)
+use Rattle.runs.specs.Records.{byteOf, layer0In, countsTo}
 
 -- What question 2 gives.
 pub kinds-known : (b : List ℕ) {r : Bool} → r ≡ question2 b → not r ≡ false → Kinds b (records b)
@@ -53,24 +46,22 @@ module _ {b : List ℕ} {n m k : ℕ} (u : UpTo b n m k) where
       let e : k ≡ n = omega (arith, u .within) in
       record { front = rw e at u; behind = λ j i p. absurd (omega arith) }
 
--- From record i to record j none is of a kind, or each is.
-counts-others : (b : List ℕ) (m i j : ℕ) → i ≤ j → ((k : ℕ) → i ≤ k → k < j → kind b k ≡ m → ⊥) → count b m j ≡ count b m i
-unfolding count
-counts-others b m i zero h f = let e : i ≡ 0 = omega arith in rw e refl
-counts-others b m i (suc j) h f = go (decLe i j) (λ l. counts-others b m i j l (λ k a c. f k a (omega arith)))
-  where
-    go : Dec (i ≤ j) → (i ≤ j → count b m j ≡ count b m i) → cond (eqb (kind b j) m) 1 0 + count b m j ≡ count b m i
-    go (yes l) r = rw (ne-eqb (kind b j) m (f j l (omega arith))) (omega (arith, r l))
-    go (no l) r = let e : i ≡ suc j = omega arith in rw e refl
+-- The loop that counts the widths of layer 0: v is the layer byte of record k.
+pub counts-nothing : (b : List ℕ) → 0 ≡ layer0In b 0
+unfolding countIf
+counts-nothing b = refl
 
-counts-same : (b : List ℕ) (m i j : ℕ) → i ≤ j → ((k : ℕ) → i ≤ k → k < j → kind b k ≡ m) → count b m j + i ≡ j + count b m i
-unfolding count
-counts-same b m i zero h f = let e : i ≡ 0 = omega arith in rw e (omega arith)
-counts-same b m i (suc j) h f = go (decLe i j) (λ l. counts-same b m i j l (λ k a c. f k a (omega arith)))
-  where
-    go : Dec (i ≤ j) → (i ≤ j → count b m j + i ≡ j + count b m i) → cond (eqb (kind b j) m) 1 0 + count b m j + i ≡ suc j + count b m i
-    go (yes l) r = rw (eq-eqb (kind b j) m (f j l (omega arith))) (omega (arith, r l))
-    go (no l) r = let e : i ≡ suc j = omega arith in rw e (omega arith)
+module _ (b : List ℕ) (k : ℕ) {m v : ℕ} (e : m ≡ layer0In b k) (f : v ≡ byteOf b 0 2 k) where
+  layer-is : widthLayer b k ≡ v
+  layer-is = let g : 0 + k ≡ k = omega arith in rw g at (sym f)
+
+  pub counts-one : v ≡ 0 → m + 1 ≡ layer0In b (k + 1)
+  unfolding countIf
+  counts-one z = rw (add-one k, layer-is, z) (omega (arith, e))
+
+  pub counts-no-more : (v ≡ 0 → ⊥) → m ≡ layer0In b (k + 1)
+  unfolding countIf
+  counts-no-more z = rw (add-one k, layer-is, ne-eqb v 0 z) (omega (arith, e))
 
 -- What ends a kind is before what ends the next.
 module _ {b : List ℕ} {n m p : ℕ} (x : Ends b n m p) where
@@ -86,11 +77,11 @@ module _ {b : List ℕ} {n m p : ℕ} (x : Ends b n m p) where
         go (no a) = absurd (omega (arith, x .front .before q (omega arith), y .behind q (omega arith) (omega (arith, x .front .within))))
 
     pub counts-run : q - p ≡ count b (suc m) n
-    unfolding count
+    unfolding countIf
     counts-run =
-        let f : count b (suc m) p ≡ 0 = counts-others b (suc m) 0 p (omega arith) (λ k i h e. omega (arith, x .front .before k h, e)) in
-        let g = counts-same b (suc m) p q ends-order (λ k i h. omega (arith, x .behind k i (omega (arith, y .front .within)), y .front .before k h)) in
-        let l = counts-others b (suc m) q n (y .front .within) (λ k i h e. omega (arith, y .behind k i h, e)) in
+        let f : count b (suc m) p ≡ 0 = counts-none _ 0 p (omega arith) (λ k i h. ne-eqb (kind b k) (suc m) (λ e. omega (arith, x .front .before k h, e))) in
+        let g = counts-each (λ r. eqb (kind b r) (suc m)) p q ends-order (λ k i h. eq-eqb (kind b k) (suc m) (omega (arith, x .behind k i (omega (arith, y .front .within)), y .front .before k h))) in
+        let l = counts-none (λ r. eqb (kind b r) (suc m)) q n (y .front .within) (λ k i h. ne-eqb (kind b k) (suc m) (λ e. omega (arith, y .behind k i h, e))) in
         omega (arith, f, g, l)
 
 -- All records are between the end of no kind and the end of the last.
@@ -101,10 +92,18 @@ module _ {b : List ℕ} {n : ℕ} (h : Kinds b n) where
   ends-all : Ends b n 4 n
   ends-all = record { front = record { within = omega arith; before = λ k l. h .known k l .1 }; behind = λ k i l. absurd (omega arith) }
 
-  pub counts-runs : {w s t : ℕ} → Ends b n 1 w → Ends b n 2 s → Ends b n 3 t
-      → _≡_ {A = Counts} (record { widths = w; sizes = s - w; stages = t - s; segments = n - t }) (countsTo b n)
-  counts-runs {w} {s} {t} x y z =
+  -- behind the widths there is none, so the widths of layer 0 are those among the first records
+  layer0-run : {w : ℕ} → Ends b n 1 w → layer0In b w ≡ countLayer0 b n
+  layer0-run {w} x =
+      counts-alike (λ r. eqb (widthLayer b r) 0) (λ r. eqb (kind b r) 1 && eqb (widthLayer b r) 0) w
+      (λ k l. rw (eq-eqb (kind b k) 1 (omega (arith, x .front .before k l, h .known k (omega (arith, x .front .within)) .0))))
+      ∙ sym (counts-none (λ r. eqb (kind b r) 1 && eqb (widthLayer b r) 0) w n (x .front .within) (λ k i l. rw (ne-eqb (kind b k) 1 (λ e. omega (arith, x .behind k i l, e)))))
+
+  pub counts-runs : {w s t v : ℕ} → Ends b n 1 w → Ends b n 2 s → Ends b n 3 t → v ≡ layer0In b w
+      → _≡_ {A = Counts} (record { widths = w; layer0 = v; sizes = s - w; stages = t - s; segments = n - t }) (countsTo b n)
+  counts-runs {w} {s} {t} {v} x y z u =
       let e : w ≡ count b 1 n = omega (arith, counts-run ends-none x) in
+      let d : v ≡ countLayer0 b n = u ∙ layer0-run x in
       let f : s - w ≡ count b 2 n = counts-run x y in
       let g : t - s ≡ count b 3 n = counts-run y z in
       let i : n - t ≡ count b 4 n = counts-run z ends-all in

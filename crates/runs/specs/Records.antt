@@ -5,7 +5,7 @@ use Prim.Native.Nat.{ℕ, _+_, _*_, _≤_}
 use lib.Dec.{leb, ltb, eqb}
 use lib.ListN.{length, getD}
 use Rattle.lattice.specs.Lists.{every}
-use Rattle.net.specs.Job.{byte, word, kind, count}
+use Rattle.net.specs.Job.{byte, word, countIf, count, countLayer0, widthLayer, widthsOf}
 use Rattle.net.specs.Questions.{inRange}
 use Rattle.net.specs.declared.Counts.{Counts}
 
@@ -21,9 +21,9 @@ module _ (b : List ℕ) where
   abbrev pub wordOf : ℕ → ℕ → ℕ → ℕ
   wordOf start at k = word b (16 * (start + k) + at)
 
-  -- Is the kind of record r at most that of the next?
-  abbrev pub kindInOrder : ℕ → Bool
-  kindInOrder r = leb (kind b r) (kind b (r + 1))
+  -- Is the byte at `at` of record r at most that of the next?
+  abbrev pub byteInOrder : ℕ → ℕ → Bool
+  byteInOrder at r = leb (byteOf 0 at r) (byteOf 0 at (r + 1))
 
   -- Is the number of a record its place in the run?
   abbrev pub numberInOrder : ℕ → ℕ → Bool
@@ -53,6 +53,10 @@ module _ (b : List ℕ) where
   abbrev pub rangeWithin : ℕ → ℕ → ℕ → ℕ → Bool
   rangeWithin start at n k = leb (byteOf start at k) (byteOf start (at + 1) k) && ltb (byteOf start (at + 1) k) n
 
+  -- Is a segment's lowest width at most its highest, and that one of the table of its layer?
+  abbrev pub widthsWithin : Counts → ℕ → ℕ → Bool
+  widthsWithin c start k = leb (byteOf start 13 k) (byteOf start 14 k) && ltb (byteOf start 14 k) (widthsOf c (byteOf start 15 k))
+
   -- Is a segment's parent byte at most its own number?
   abbrev pub parentInOrder : ℕ → ℕ → Bool
   parentInOrder start k = leb (byteOf start 2 k) k
@@ -65,6 +69,17 @@ module _ (b : List ℕ) where
   abbrev pub sinkOrBranch : List ℕ → ℕ → ℕ → ℕ → Bool
   sinkOrBranch first start n k = not (eqb (byteOf start 3 k) 0) || ltb (getD first (k + 1) 0) n
 
-  -- The counts of the first n records by kind.
+  -- How many of the first n records have the layer byte 0 of a width.
+  abbrev pub layer0In : ℕ → ℕ
+  layer0In n = countIf (λ r. eqb (widthLayer b r) 0) n
+
+  -- The counts of the first n records by kind, and of the widths among them by layer.
   abbrev pub countsTo : ℕ → Counts
-  countsTo n = record { widths = count b 1 n; sizes = count b 2 n; stages = count b 3 n; segments = count b 4 n }
+  countsTo n =
+      record {
+        widths = count b 1 n;
+        layer0 = countLayer0 b n;
+        sizes = count b 2 n;
+        stages = count b 3 n;
+        segments = count b 4 n;
+      }

@@ -1,12 +1,12 @@
-// Tests of each record of a run, and the counts of records by kind. A run is `count` records from the record `start` on. A test that fails ends
+// Tests of each record of a run, and the counts of records by kind and of the widths by layer. A run is `count` records from the record `start` on. A test that fails ends
 // its loop.
 use net::Counts;
 ghost use mathlib.Core.Path.{_≡_};
-ghost use Prim.Native.Nat.{_+_, _*_, _<_, _≤_};
+ghost use Prim.Native.Nat.{_+_, _*_, _-_, _<_, _≤_};
 ghost use lib.ListN.{length};
 ghost use Rattle.lattice.specs.Lists.{every};
 ghost use Rattle.runs.specs.Kinds.{Kinds, UpTo, Ends};
-ghost use Rattle.runs.specs.Records.{byteOf, wordOf, kindInOrder, numberInOrder, zeroFrom, zeroBytes, byteWithin, wordWithin, wordBelow, rangeWithin, parentInOrder, sinkOrNone, sinkOrBranch, countsTo, HasRun};
+ghost use Rattle.runs.specs.Records.{byteOf, wordOf, byteInOrder, numberInOrder, zeroFrom, zeroBytes, byteWithin, wordWithin, wordBelow, rangeWithin, widthsWithin, parentInOrder, sinkOrNone, sinkOrBranch, layer0In, countsTo, HasRun};
 
 // The byte at `at` of the record k after `start`.
 pub fn byte_of(job: &[u8], start: usize, at: usize, k: usize) -> usize
@@ -24,18 +24,20 @@ fn word_of(job: &[u8], start: usize, at: usize, k: usize) -> usize
     job::word_at(job, 16 * (start + k) + at) as usize
 }
 
-// Does the kind fall nowhere in the first n + 1 records?
-pub fn kinds_in_order(job: &[u8], n: usize) -> bool
-    requires { ⌜ 16 * (n + 1) ≤ length (now job) ⌝ }
-    ensures { λ r. ⌜ r ≡ every n (kindInOrder (now (job .entry))) ⌝ }
+// Does the byte at `at` fall nowhere from one of the first n records to the next?
+pub fn bytes_in_order(job: &[u8], at: usize, n: usize) -> bool
+    requires { ⌜ HasRun (now job) 0 n × (at < 16) ⌝ }
+    ensures { λ r. ⌜ r ≡ every (n - 1) (byteInOrder (now (job .entry)) at) ⌝ }
 {
-    for k in 0..n {
-        let kind = job::index_at(job, 16 * k);
-        let next = job::index_at(job, 16 * (k + 1));
-        let passed = kind <= next;
+    let mut k = 0;
+    while k + 1 < n {
+        let byte = byte_of(job, 0, at, k);
+        let next = byte_of(job, 0, at, k + 1);
+        let passed = byte <= next;
         if !passed {
             return false;
         }
+        k += 1;
     }
     true
 }
@@ -160,6 +162,24 @@ pub fn ranges_within(job: &[u8], start: usize, count: usize, at: usize, n: usize
     true
 }
 
+// Is each segment's lowest width at most its highest, and that one of the table of its layer?
+pub fn widths_within(job: &[u8], counts: Counts, start: usize, count: usize) -> bool
+    requires { ⌜ HasRun (now job) start count × (counts .layer0 ≤ counts .widths) ⌝ }
+    ensures { λ r. ⌜ r ≡ every count (widthsWithin (now (job .entry)) counts start) ⌝ }
+{
+    for k in 0..count {
+        let lowest = byte_of(job, start, 13, k);
+        let highest = byte_of(job, start, 14, k);
+        let layer = byte_of(job, start, 15, k);
+        let widths = job::widths_of(counts, layer);
+        let passed = (lowest <= highest) & (highest < widths);
+        if !passed {
+            return false;
+        }
+    }
+    true
+}
+
 // Is each segment's parent byte at most its own number?
 pub fn parents_in_order(job: &[u8], start: usize, count: usize) -> bool
     requires { ⌜ HasRun (now job) start count ⌝ }
@@ -225,7 +245,23 @@ fn end_of(job: &[u8], n: usize, from: usize, kind: usize) -> usize
     n
 }
 
-// How many of the first n records are of each kind, where their kinds are 1 to 4 and never fall: each kind is one run of records.
+// How many of the first n records, which are widths, are of layer 0.
+fn count_layer0(job: &[u8], n: usize) -> usize
+    requires { ⌜ HasRun (now job) 0 n ⌝ }
+    ensures { λ r. ⌜ r ≡ layer0In (now (job .entry)) n ⌝ }
+{
+    let mut count = 0;
+    for k in 0..n {
+        let layer = byte_of(job, 0, 2, k);
+        if layer == 0 {
+            count += 1;
+        }
+    }
+    count
+}
+
+// How many of the first n records are of each kind, and of the widths how many are of layer 0, where their kinds are 1 to 4 and never fall: each
+// kind is one run of records.
 pub fn count(job: &[u8], n: usize) -> Counts
     requires { ⌜ 16 * n ≤ length (now job) ⌝ }
     requires { ⌜ Kinds (now job) n ⌝ }
@@ -234,8 +270,10 @@ pub fn count(job: &[u8], n: usize) -> Counts
     let widths = end_of(job, n, 0, 1);
     let sizes = end_of(job, n, widths, 2);
     let stages = end_of(job, n, sizes, 3);
+    let layer0 = count_layer0(job, widths);
     Counts {
         widths: widths,
+        layer0: layer0,
         sizes: sizes - widths,
         stages: stages - sizes,
         segments: n - stages,

@@ -10,6 +10,7 @@ use lib.ListN.{length, set}
 use Rattle.lattice.specs.Lists.{at}
 use Rattle.lattice.specs.Search.{Found, take}
 use Rattle.net.specs.declared.Counts.{Counts}
+use Rattle.net.specs.Job.{segmentLayer}
 use Rattle.net.specs.Net.{places, netBy}
 use Rattle.net.specs.Delay.{delay}
 use Rattle.net.specs.Sizings.{allowed}
@@ -94,7 +95,7 @@ module _ {c : Counts} {job weights upstream driven ups skips lower upper : List 
   pub small : at upper (left - 1) < 16
   small =
       let h = place-cases c job (λ q. netBy c job .highest q < 16)
-      (λ q i. omega (arith, r .checked .sized q i, r .checked .fewSizes)) (λ i j. omega (arith, r .checked .wired i j, r .checked .fewWidths)) (left - 1) few in
+      (λ q i. omega (arith, r .checked .sized q i, r .checked .fewSizes)) (λ i j. omega (arith, r .checked .wired i j, r .checked .fewWidths (segmentLayer c job i))) (left - 1) few in
       omega (arith, h, allowed-iff (netBy c job) upper .0 (r .upperAllowed) .high (left - 1) few)
 
   pub begin : Turning (netBy c job) lower upper (left - 1) x (found least lean wide) x (at lower (left - 1)) (found least lean wide)

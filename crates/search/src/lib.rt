@@ -10,7 +10,7 @@ ghost use lib.ListN.{length};
 ghost use Rattle.envelope.specs.Kept.{found};
 ghost use Rattle.net.specs.Job.{placesBy};
 ghost use Rattle.net.specs.Checked.{Checked, AllowedBy, ForPlaces};
-ghost use Rattle.place.specs.ByCounts.{Weighed, StepInLimits, Driven};
+ghost use Rattle.place.specs.ByCounts.{Weighed, rowsAt, StepInLimits, Driven};
 ghost use Rattle.search.specs.Searching.{Bounds, Prepared, LastFree, MoreFree, BothLong, Skipped, AllFit, PassedBy, PassedAt, SizedBy, arrivesAt, Lifted, SearchedFrom, takenBetween};
 
 // The node at which a load at `node` arrives, through the held segments above it.
@@ -74,7 +74,8 @@ fn skip(job: &[u8], counts: Counts, lower: &[u8], upper: &[u8], skips: &mut [usi
     }
 }
 
-// The first index of place p from `low` on that gives a delay of at most `least`, or the one past `top`. It writes nothing and is called at the
+// The first index of place p from `low` on that gives a delay of at most `least`, or the one past `top`, where the table of its layer starts at
+// `rows`. It writes nothing and is called at the
 // last free place, so most sizings of a search are passed over by it.
 fn pass_over(
     job: &[u8],
@@ -82,6 +83,7 @@ fn pass_over(
     weight: u64,
     before: Resistance,
     p: usize,
+    rows: usize,
     load: Capacitance,
     added: Delay,
     least: Delay,
@@ -89,6 +91,7 @@ fn pass_over(
     top: u8,
 ) -> u8
     requires { ⌜ Checked counts (now job) ⌝ }
+    requires { ⌜ rows ≡ rowsAt counts (now job) p ⌝ }
     requires { ⌜ StepInLimits counts (now job) weight (before .0) p top (load .0) ⌝ }
     requires { ⌜ (low ≤ top) × (top < 16) ⌝ }
     requires { ⌜ AllFit counts (now job) weight (before .0) p (load .0) (added .0) low top ⌝ }
@@ -96,7 +99,7 @@ fn pass_over(
 {
     let mut k = low;
     while k <= top {
-        let step = place::step(job, counts, weight, before, p, k, load);
+        let step = place::step(job, counts, weight, before, p, rows, k, load);
         let reached = quantity::add_delay(added, step.delay);
         if reached.0 <= least.0 {
             return k;
@@ -138,6 +141,7 @@ fn take_from(
         (now (x .exit)) (now (gathered .entry)) (found (r .0) (now (lean .exit)) (now (wide .exit))) ⌝ }
 {
     let p = left - 1;
+    let rows = place::rows_at(job, counts, p);
     let weight = weights[p];
     let before = Resistance(upstream[p]);
     let load = quantity::add_capacitance(Capacitance(driven[p]), Capacitance(gathered[p + 1]));
@@ -146,7 +150,7 @@ fn take_from(
     let mut best = least;
     while k <= top {
         let index = k;
-        let step = place::step(job, counts, weight, before, p, index, load);
+        let step = place::step(job, counts, weight, before, p, rows, index, load);
         let reached = quantity::add_delay(added, step.delay);
         k += 1;
         if reached.0 <= best.0 {
@@ -186,8 +190,10 @@ fn search(
         (now (x .exit)) (now (gathered .exit)) (found (r .0) (now (lean .exit)) (now (wide .exit))) ⌝ }
 {
     let p = left - 1;
+    let rows = place::rows_at(job, counts, p);
     let rest = skips[p];
     let next = rest - 1;
+    let next_rows = place::rows_at(job, counts, next);
     let further = skips[next];
     let weight = weights[p];
     let before = Resistance(upstream[p]);
@@ -198,7 +204,7 @@ fn search(
     let mut k = lower[p];
     let mut best = least;
     while k <= top {
-        let step = place::step(job, counts, weight, before, p, k, load);
+        let step = place::step(job, counts, weight, before, p, rows, k, load);
         let reached = quantity::add_delay(added, step.delay);
         let shown = step.load;
         x[p] = k;
@@ -214,6 +220,7 @@ fn search(
                 weights[next],
                 Resistance(upstream[next]),
                 next,
+                next_rows,
                 quantity::add_capacitance(here, arrived),
                 reached,
                 best,

@@ -5,7 +5,7 @@ use mathlib.Core.List.{List, _++_}
 use Prim.Native.Nat.{ℕ, suc, _*_, _≤_, _<_}
 use native.Mathlib.Omega.{arith}
 use borrow.Author.Tests.{le-leb, lt-leb}
-use lib.Dec.{leb}
+use lib.Dec.{leb, lit≤}
 use lib.ListN.{length, drop, replicate}
 use Rattle.lattice.specs.Lists.{at}
 use Rattle.lattice.specs.Space.{within}
@@ -16,7 +16,7 @@ use Rattle.net.specs.Sizings.{room}
 use Rattle.net.specs.Checked.{Checked}
 use Rattle.net.specs.Questions.{refusal}
 use Rattle.net.specs.Answers.{replyLength, sizeNumber, boundsReply, replyRecords, sizeBuffer}
-use Rattle.net.proofs.Promises.{promises, refusal-le, size-fails, size-passes, buffer-refused}
+use Rattle.net.proofs.Promises.{promises, refusal-apart, size-fails, size-passes, buffer-refused}
 use Rattle.bounds.specs.Between.{roomy}
 use Rattle.finish.specs.Parts.{Bounded, bufferFrom}
 use Rattle.finish.proofs.Parts.{lower-long}
@@ -51,8 +51,7 @@ module _ (job before : List ℕ) where
   pub size-job : (n : ℕ) → n ≡ refusal job → (n ≡ 0 → ⊥) → Settled job before n before
   size-job n e z =
       let f : sizeNumber job (length before) ≡ n = size-fails job (length before) (λ g. z (e ∙ g)) ∙ sym e in
-      let m : n ≤ 11 = omega (arith, refusal-le job) in
-      settled job before n before (sym f) (sym (buffer-refused job before (λ g. z (sym f ∙ g)) (λ g. omega arith)))
+      settled job before n before (sym f) (sym (buffer-refused job before (λ g. z (sym f ∙ g)) (λ g. refusal-apart job 14 (lit≤ tt) (lit≤ tt) (sym e ∙ sym f ∙ g))))
 
   module _ {c : Counts} (k : Checked c job) (passes : refusal job ≡ 0) where
     net-is : netBy c job ≡ netOf job

@@ -17,7 +17,7 @@ ghost use Rattle.place.specs.ByCounts.{Weighed};
 ghost use Rattle.finish.specs.Parts.{BoundedBy, bufferBy};
 ghost use Rattle.size.specs.Numbers.{roomNumber, Settled};
 
-// What comes of sizing a job: the number of the first question that fails, 0 where none does; and, where the job passes 1 to 11, the counts of
+// What comes of sizing a job: the number of the first question that fails, 0 where none does; and, where the job passes its questions, the counts of
 // its records.
 pub struct NumberAndCounts {
     pub number: usize,

@@ -1,7 +1,8 @@
 //! Writes a file of framed calls and a file of the lines that they have to give.
 
 use numlejka_tests::batches::{
-    Counts, OUTPUTS, STRAY_SINK, count_expected, damaged_calls, large_calls, limit_calls, room_calls, small_calls, worked_calls,
+    BOTH_LAYERS, Counts, LAYER_FAULTS, OUTPUTS, STRAY_SINK, count_expected, damaged_calls, job_of, large_calls, limit_calls,
+    room_calls, small_calls, worked_calls,
 };
 use numlejka_tests::calls::Call;
 use numlejka_tests::random::{Random, SEED};
@@ -10,17 +11,10 @@ use numlejka_tests::random::{Random, SEED};
 const SHORT_JOB: usize = 30 * 16;
 
 /// The most bytes of all frames.
-const MOST_BYTES: usize = 900_000;
+const MOST_BYTES: usize = 1_000_000;
 
 /// The most allowed sizings of a job, few so that a slow program is done soon.
 const MOST_ALLOWED: u128 = 200;
-
-/// The job of a call.
-fn job_of(call: &Call) -> &[u8] {
-    match call {
-        Call::Measure { job, .. } | Call::Refine { job, .. } | Call::Choose { job, .. } | Call::Size { job, .. } => job,
-    }
-}
 
 /// A call whose place fits into one byte.
 fn framed(call: Call) -> Call {
@@ -84,12 +78,12 @@ fn main() -> std::io::Result<()> {
     let mut counts = Counts::new();
     count_expected(&mut counts, &calls);
     assert!(
-        (0..=12).chain([14]).all(|number| counts.contains_key(&("size", number))),
+        (0..=12).chain([14, 24]).all(|number| counts.contains_key(&("size", number))),
         "every question of size is reached"
     );
     assert!(
         (0..=11)
-            .chain([15, 16, 17])
+            .chain([15, 16, 17, 24])
             .all(|number| counts.contains_key(&("refine", number))),
         "every question of refine is reached"
     );
@@ -101,6 +95,11 @@ fn main() -> std::io::Result<()> {
         counts[&(OUTPUTS, 0)] >= 100,
         "many measures have an output of stage 0, which is not the last"
     );
+    assert!(
+        LAYER_FAULTS.iter().all(|&way| counts.contains_key(&(way, 24))),
+        "24 comes in each of its ways"
+    );
+    assert!(counts[&(BOTH_LAYERS, 0)] >= 100, "many calls have segments on both layers");
     println!("seed {SEED:#x}, {} calls, {} bytes, {counts:?}", calls.len(), frames.len());
     Ok(())
 }

@@ -82,9 +82,9 @@ delay-requires-2 : tie.Need-delay-requires-2
 delay-requires-2 c κs =
     let b = c .before .before .before .before .before .before .before .before .before .before .before .before .before .before .before .before .before .before .before .before .before in
     let k = c .before .before .before .before .before .before .before .before .before .before .before .before .before .before .before .check in
-    let z : k .result .number ≡ 0 = omega arith in
+    let z : k .result .number ≡ 0 = omega (arith, c .before .before .before .before .before .before .before .before .before .before .before .if1 .left) in
     let m = c .before .before .before .before .before .before .before .sizing-number2 in
-    let v : m .result ≡ 0 = omega (arith, m .ensures) in
+    let v : m .result ≡ 0 = omega (arith, c .before .before .before .before .before .before .if3 .left) in
     (record { checked = k .ensures .passed z; inRanges = number-ranges (netBy (k .result .counts) (b .args .job .now)) (b .args .y .now) (sym (m .ensures) ∙ v) }, k .ensures .linked z)
 
 returns-4 : tie.Need-returns-4

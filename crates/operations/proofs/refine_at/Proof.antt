@@ -73,13 +73,13 @@ settle-requires c κs =
     (rw (add-one (b .args .place)) at (c .before .before .before .go-upstream .ensures)) (driven-all (netBy (b .args .counts) (b .args .job .now)) (ordered (b .pre .0)) (b .args .sizing .now) _ (c .before .before .before .before .before .before .drive .ensures) (b .args .place) (b .pre .1 .1 .1)) in
     (b .pre .0, (b .pre .1 .1 .1, f .0, f .1, f .2))
 
-shared-slice-read-step : tie.Need-shared-slice-read-step
-shared-slice-read-step c =
+shared-slice-read-step-at : tie.Need-shared-slice-read-step-at
+shared-slice-read-step-at c =
     let b = c .before .before .before .before .before .before .before .before .before .before .before .before .before .before .before .before in
     omega (arith, b .pre .1 .1 .1, allowed-long (netBy (b .args .counts) (b .args .job .now)) (b .args .sizing .now) (b .pre .1 .1 .0))
 
-step-requires : tie.Need-step-requires
-step-requires c κs =
+step-at-requires : tie.Need-step-at-requires
+step-at-requires c κs =
     let b = c .before .before .before .before .before .before .before .before .before .before .before .before .before .before .before .before in
     let f = figures-small (netBy (b .args .counts) (b .args .job .now)) (ordered (b .pre .0)) (limited (b .pre .0)) _ _ (b .args .sizing .now) (c .before .before .before .before .before .before .before .before .before .before .weigh .ensures) (b .pre .1 .1 .0) (b .args .place) _ (b .pre .1 .1 .1)
     (rw (add-one (b .args .place)) at (c .before .before .before .before .before .go-upstream .ensures)) (driven-all (netBy (b .args .counts) (b .args .job .now)) (ordered (b .pre .0)) (b .args .sizing .now) _ (c .before .before .before .before .before .before .before .before .drive .ensures) (b .args .place) (b .pre .1 .1 .1)) in
@@ -90,8 +90,8 @@ exchange-requires c κs =
     let b = c .before .before .before .before .before .before .before .before .before .before .before .before .before .before .before .before .before .before in
     let h = exchange-asks (b .pre .0) _ _ (b .args .sizing .now) (c .before .before .before .before .before .before .before .before .before .before .before .before .weigh .ensures) (b .pre .1 .1 .0) (b .args .place) _ (b .pre .1 .1 .1)
     (rw (add-one (b .args .place)) at (c .before .before .before .before .before .before .before .go-upstream .ensures)) (driven-all (netBy (b .args .counts) (b .args .job .now)) (ordered (b .pre .0)) (b .args .sizing .now) _ (c .before .before .before .before .before .before .before .before .before .before .drive .ensures) (b .args .place) (b .pre .1 .1 .1))
-    _ (c .before .before .before .settle .ensures) _ _ (c .before .before .before .before .fixed-delay .ensures ∙ fixed-whole (netBy (b .args .counts) (b .args .job .now)) (ordered (b .pre .0)) (b .args .sizing .now) _ (c .before .before .before .before .before .before .before .before .before .before .drive .ensures)) (c .before .step .ensures .delay) in
-    let o = c .before .step .ensures .fits in
+    _ (c .before .before .before .settle .ensures) _ _ (c .before .before .before .before .fixed-delay .ensures ∙ fixed-whole (netBy (b .args .counts) (b .args .job .now)) (ordered (b .pre .0)) (b .args .sizing .now) _ (c .before .before .before .before .before .before .before .before .before .before .drive .ensures)) (c .before .step-at .ensures .delay) in
+    let o = c .before .step-at .ensures .fits in
     ((omega (arith, h), omega (arith, h, o)), (omega (arith, h), omega (arith, h)))
 
 returns : tie.Need-returns
@@ -99,7 +99,7 @@ returns c =
     let b = c .before .before .before .before .before .before .before .before .before .before .before .before .before .before .before .before .before .before .before in
     exchanged (b .pre .0) _ _ (b .args .sizing .now) (c .before .before .before .before .before .before .before .before .before .before .before .before .before .weigh .ensures) (b .pre .1 .1 .0) (b .args .place) _ (b .pre .1 .1 .1)
     (rw (add-one (b .args .place)) at (c .before .before .before .before .before .before .before .before .go-upstream .ensures)) (driven-all (netBy (b .args .counts) (b .args .job .now)) (ordered (b .pre .0)) (b .args .sizing .now) _ (c .before .before .before .before .before .before .before .before .before .before .before .drive .ensures) (b .args .place) (b .pre .1 .1 .1))
-    _ (c .before .before .before .before .settle .ensures) _ _ (c .before .before .before .before .before .fixed-delay .ensures ∙ fixed-whole (netBy (b .args .counts) (b .args .job .now)) (ordered (b .pre .0)) (b .args .sizing .now) _ (c .before .before .before .before .before .before .before .before .before .before .before .drive .ensures)) (c .before .before .step .ensures .delay) _ (c .exchange .ensures .0)
+    _ (c .before .before .before .before .settle .ensures) _ _ (c .before .before .before .before .before .fixed-delay .ensures ∙ fixed-whole (netBy (b .args .counts) (b .args .job .now)) (ordered (b .pre .0)) (b .args .sizing .now) _ (c .before .before .before .before .before .before .before .before .before .before .before .drive .ensures)) (c .before .before .step-at .ensures .delay) _ (c .exchange .ensures .0)
 
 pub refine-at-spec : {M : Type 1} → statement M
 refine-at-spec =
@@ -117,7 +117,7 @@ refine-at-spec =
     mul-t21-2
     array-read-t26-2
     settle-requires
-    shared-slice-read-step
-    step-requires
+    shared-slice-read-step-at
+    step-at-requires
     exchange-requires
     returns)

@@ -42,38 +42,38 @@ shared-slice-read-if1-2 c =
     let l = c .before .before .before .loop in
     omega (arith, l .inv .1, c .before .before .loop-test .taken, b .pre .1 .1 .1 .1)
 
-mul-step : tie.Need-mul-step Inv-loop μ-loop
-mul-step c =
+mul-step-at : tie.Need-mul-step-at Inv-loop μ-loop
+mul-step-at c =
     let b = c .before .before .before .before .before .before .before .before .before in
     let l = c .before .before .before .before .loop in
     omega (arith, l .inv .1, b .pre .0 .fewStages, b .pre .0 .fewSegments)
 
-element-copy-out-step : tie.Need-element-copy-out-step Inv-loop μ-loop
-element-copy-out-step c =
+element-copy-out-step-at : tie.Need-element-copy-out-step-at Inv-loop μ-loop
+element-copy-out-step-at c =
     let b = c .before .before .before .before .before .before .before .before .before in
     let l = c .before .before .before .before .loop in
     omega (arith, l .inv .1, c .before .before .before .loop-test .taken, b .pre .0 .fewStages, b .pre .0 .fewSegments)
 
-mul-step-2 : tie.Need-mul-step-2 Inv-loop μ-loop
-mul-step-2 c =
+mul-step-at-2 : tie.Need-mul-step-at-2 Inv-loop μ-loop
+mul-step-at-2 c =
     let b = c .before .before .before .before .before .before .before .before .before .before in
     let l = c .before .before .before .before .before .loop in
     omega (arith, l .inv .1, b .pre .0 .fewStages, b .pre .0 .fewSegments)
 
-element-copy-out-step-2 : tie.Need-element-copy-out-step-2 Inv-loop μ-loop
-element-copy-out-step-2 c =
+element-copy-out-step-at-2 : tie.Need-element-copy-out-step-at-2 Inv-loop μ-loop
+element-copy-out-step-at-2 c =
     let b = c .before .before .before .before .before .before .before .before .before .before in
     let l = c .before .before .before .before .before .loop in
     omega (arith, l .inv .1, c .before .before .before .before .loop-test .taken, b .pre .0 .fewStages, b .pre .0 .fewSegments)
 
-shared-slice-read-step : tie.Need-shared-slice-read-step Inv-loop μ-loop
-shared-slice-read-step c =
+shared-slice-read-step-at : tie.Need-shared-slice-read-step-at Inv-loop μ-loop
+shared-slice-read-step-at c =
     let b = c .before .before .before .before .before .before .before .before .before .before .before .before in
     let l = c .before .before .before .before .before .before .before .loop in
     omega (arith, l .inv .1, c .before .before .before .before .before .before .loop-test .taken, allowed-long (netBy (b .args .counts) (b .args .job .now)) (b .args .lower .now) (b .pre .1 .1 .1 .0))
 
-step-requires : tie.Need-step-requires Inv-loop μ-loop
-step-requires c κs =
+step-at-requires : tie.Need-step-at-requires Inv-loop μ-loop
+step-at-requires c κs =
     let b = c .before .before .before .before .before .before .before .before .before .before .before .before in
     let l = c .before .before .before .before .before .before .before .loop in
     let h : l .p - 1 < b .args .counts .stages + b .args .counts .segments = omega (arith, l .inv .1, c .before .before .before .before .before .before .loop-test .taken) in (
@@ -94,7 +94,7 @@ add-delay-requires c κs =
     let h : l .p - 1 < b .args .counts .stages + b .args .counts .segments = omega (arith, l .inv .1, c .before .before .before .before .before .before .before .loop-test .taken) in
     let e : suc (l .p - 1) ≡ l .p = omega (arith, c .before .before .before .before .before .before .before .loop-test .taken) in
     let f = rw e at (fixed-step (netBy (b .args .counts) (b .args .job .now)) (ordered (b .pre .0)) (limited (b .pre .0)) (b .args .lower .now) (b .args .upper .now) (b .args .driven .now) (b .pre .1 .1 .1 .0) (b .pre .1 .1 .0) (l .p - 1) h (c .before .before .before .before .if1 .taken)) in
-    let d = c .step .ensures .delay in
+    let d = c .step-at .ensures .delay in
     let w = b .pre .1 .0 .held (l .p - 1) (omega arith) h in
     omega (arith, l .inv .0, f, rw w at d, fixed-fits (netBy (b .args .counts) (b .args .job .now)) (ordered (b .pre .0)) (limited (b .pre .0)) (b .args .lower .now) (b .args .upper .now) (b .args .driven .now) (b .pre .1 .1 .1 .0) (b .pre .1 .1 .0) (l .p - 1))
 
@@ -108,7 +108,7 @@ loop-again c =
     let h : l .p - 1 < b .args .counts .stages + b .args .counts .segments = omega (arith, l .inv .1, c .before .before .before .before .before .before .before .before .loop-test .taken) in
     let e : suc (l .p - 1) ≡ l .p = omega (arith, c .before .before .before .before .before .before .before .before .loop-test .taken) in
     let f = rw e at (fixed-step (netBy (b .args .counts) (b .args .job .now)) (ordered (b .pre .0)) (limited (b .pre .0)) (b .args .lower .now) (b .args .upper .now) (b .args .driven .now) (b .pre .1 .1 .1 .0) (b .pre .1 .1 .0) (l .p - 1) h (c .before .before .before .before .before .if1 .taken)) in
-    let d = c .before .step .ensures .delay in
+    let d = c .before .step-at .ensures .delay in
     let w = b .pre .1 .0 .held (l .p - 1) (omega arith) h in
     (omega (arith, c .add-delay .ensures .0, l .inv .0, f, rw w at d), omega (arith, l .inv .1))
 
@@ -139,12 +139,12 @@ fixed-delay-spec =
     sub-p
     shared-slice-read-if1
     shared-slice-read-if1-2
-    mul-step
-    element-copy-out-step
-    mul-step-2
-    element-copy-out-step-2
-    shared-slice-read-step
-    step-requires
+    mul-step-at
+    element-copy-out-step-at
+    mul-step-at-2
+    element-copy-out-step-at-2
+    shared-slice-read-step-at
+    step-at-requires
     add-delay-requires
     loop-less
     loop-again

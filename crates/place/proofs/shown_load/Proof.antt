@@ -1,9 +1,10 @@
 -- `place::shown_load` meets its contract: a place is a stage or a segment.
-use Prim.Native.Nat.{_+_, _-_}
+use Prim.Native.Nat.{_-_}
 use native.Mathlib.Omega.{arith}
-use mathlib.Core.Path.{_≡_, sym, _∙_}
+use mathlib.Core.Path.{sym, _∙_}
 use Rattle.net.specs.Net.{netBy}
-use Rattle.place.proofs.Steps.{wire-small, load-stage, load-segment}
+use Rattle.net.proofs.Questions.{wire-small}
+use Rattle.place.proofs.Steps.{width-at, load-stage, load-segment}
 use borrow.Author.Needs.{needs}
 use Rattle.place.proofs.shown_load.Statement.{statement}
 use Rattle.place.proofs.shown_load.Tie as tie
@@ -34,8 +35,7 @@ wire-at-requires c κs =
     let b = c .before .before .before .before .before in
     let e = c .before .before .before .index .ensures in
     let i = b .args .p - b .args .counts .stages in
-    let f : b .args .counts .stages + i ≡ b .args .p = omega arith in
-    let w = rw f at (b .pre .0 .wired i (omega arith)) in
+    let w = width-at (b .pre .0) (b .args .p) (omega arith) (omega arith) in
     (b .pre .0 .held, (omega arith, omega arith))
 
 add-capacitance-requires : tie.Need-add-capacitance-requires
@@ -43,8 +43,7 @@ add-capacitance-requires c κs =
     let b = c .before .before .before .before .before .before in
     let e = c .before .before .before .before .index .ensures in
     let i = b .args .p - b .args .counts .stages in
-    let f : b .args .counts .stages + i ≡ b .args .p = omega arith in
-    let w = rw f at (b .pre .0 .wired i (omega arith)) in
+    let w = width-at (b .pre .0) (b .args .p) (omega arith) (omega arith) in
     let s = wire-small (b .pre .0) i (b .args .k) (omega arith) (omega arith) in
     let h = c .wire-at .ensures .capacitance in
     omega (arith, rw (e .0) at h)

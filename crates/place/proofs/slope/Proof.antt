@@ -1,11 +1,11 @@
 -- `place::slope` meets its contract: a place is a stage or a segment, and its slope fits.
-use Prim.Native.Nat.{_+_, _*_, _-_}
+use Prim.Native.Nat.{_*_, _-_}
 use native.Mathlib.Omega.{arith}
-use mathlib.Core.Path.{_≡_, sym, _∙_}
+use mathlib.Core.Path.{sym, _∙_}
 use Rattle.net.specs.Net.{netBy}
-use Rattle.net.proofs.Questions.{ordered, limited}
+use Rattle.net.proofs.Questions.{ordered, limited, wire-small}
 use Rattle.place.proofs.Weights.{placeWeight-small}
-use Rattle.place.proofs.Steps.{wire-small, slope-small, slope-stage, slope-segment}
+use Rattle.place.proofs.Steps.{width-at, slope-small, slope-stage, slope-segment}
 use borrow.Author.Needs.{needs}
 use Rattle.place.proofs.slope.Statement.{statement}
 use Rattle.place.proofs.slope.Tie as tie
@@ -50,8 +50,7 @@ wire-at-requires c κs =
     let b = c .before .before .before .before .before in
     let e = c .before .before .before .index .ensures in
     let i = b .args .p - b .args .counts .stages in
-    let f : b .args .counts .stages + i ≡ b .args .p = omega arith in
-    let w = rw f at (b .pre .0 .wired i (omega arith)) in
+    let w = width-at (b .pre .0) (b .args .p) (omega arith) (omega arith) in
     (b .pre .0 .held, (omega arith, omega arith))
 
 mul-weighted-resistance : tie.Need-mul-weighted-resistance
@@ -66,8 +65,7 @@ weighted-resistance-requires-2 c κs =
     let e = c .before .before .before .before .index .ensures .0 in
     let r = rw e at (c .wire-at .ensures .resistance) in
     let i = b .args .p - b .args .counts .stages in
-    let f : b .args .counts .stages + i ≡ b .args .p = omega arith in
-    let w = rw f at (b .pre .0 .wired i (omega arith)) in
+    let w = width-at (b .pre .0) (b .args .p) (omega arith) (omega arith) in
     let s = wire-small (b .pre .0) i (b .args .k) (omega arith) (omega arith) in
     let t = placeWeight-small (netBy (b .args .counts) (b .args .job .now)) (ordered (b .pre .0)) (limited (b .pre .0)) (b .args .p) (omega arith) in
     omega (arith, slope-small (2 * b .args .weight) (c .wire-at .result .resistance .0) (omega arith) (omega arith))
@@ -79,8 +77,7 @@ returns-2 c =
     let e = c .before .before .before .before .before .index .ensures .0 in
     let r = rw e at (c .before .wire-at .ensures .resistance) in
     let i = b .args .p - b .args .counts .stages in
-    let f : b .args .counts .stages + i ≡ b .args .p = omega arith in
-    let w = rw f at (b .pre .0 .wired i (omega arith)) in
+    let w = width-at (b .pre .0) (b .args .p) (omega arith) (omega arith) in
     let s = wire-small (b .pre .0) i (b .args .k) (omega arith) (omega arith) in
     let t = placeWeight-small (netBy (b .args .counts) (b .args .job .now)) (ordered (b .pre .0)) (limited (b .pre .0)) (b .args .p) (omega arith) in
     let m = c .weighted-resistance2 .ensures .0 in

@@ -1,7 +1,8 @@
 -- `place::step_to` meets its contract: a place is a stage or a segment.
-use mathlib.Core.Path.{_≡_}
+use mathlib.Core.Path.{_≡_, _∙_}
 use Prim.Native.Nat.{_+_, _-_}
 use native.Mathlib.Omega.{arith}
+use Rattle.place.proofs.Steps.{width-at, rows-segment}
 use Rattle.place.proofs.step_to.Statement.{statement}
 use Rattle.place.proofs.step_to.Tie as tie
 
@@ -16,10 +17,9 @@ returns c = c .stage-step .ensures
 segment-step-requires : tie.Need-segment-step-requires
 segment-step-requires c κs =
     let b = c .before .before .before .before in
-    let i = b .args .p - b .args .counts .stages in
-    let q : b .args .counts .stages + i ≡ b .args .p = omega arith in
-    let w = rw q at (b .pre .0 .wired i (omega arith)) in
-    (b .pre .0, (omega arith, omega arith, omega arith, omega arith, omega arith))
+    let w = width-at (b .pre .0) (b .args .p) (omega arith) (omega arith) in
+    let r = b .pre .1 .0 ∙ rows-segment (b .args .counts) (b .args .job .now) (b .args .p) (omega arith) in
+    (b .pre .0, (r, (omega arith, omega arith, omega arith, omega arith, omega arith)))
 
 returns-2 : tie.Need-returns-2
 returns-2 c =

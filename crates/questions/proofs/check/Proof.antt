@@ -1,4 +1,4 @@
--- `questions::check` meets its contract: a no to questions 1 to 10 decides, else question 11, asked by the links.
+-- `questions::check` meets its contract: a no to a question before 11 decides, else question 11, asked by the links.
 use native.Mathlib.Omega.{arith}
 use borrow.Author.Needs.{needs}
 use Rattle.questions.proofs.Numbers.{check-early, check-eleven, check-passed}

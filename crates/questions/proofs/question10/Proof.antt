@@ -23,8 +23,8 @@ words-within-requires-2 c κs = search needs
 sinks-or-none-requires : tie.Need-sinks-or-none-requires
 sinks-or-none-requires c κs = search needs
 
-ranges-within-requires : tie.Need-ranges-within-requires
-ranges-within-requires c κs = search needs
+widths-within-requires : tie.Need-widths-within-requires
+widths-within-requires c κs = search needs
 
 returns : tie.Need-returns
 returns c =
@@ -34,7 +34,7 @@ returns c =
     (c .before .before .before .words-within .ensures)
     (c .before .before .words-within2 .ensures)
     (c .before .sinks-or-none .ensures)
-    (c .ranges-within .ensures)
+    (c .widths-within .ensures)
 
 pub question10-spec : {M : Type 1} → statement M
 question10-spec =
@@ -46,5 +46,5 @@ question10-spec =
     words-within-requires
     words-within-requires-2
     sinks-or-none-requires
-    ranges-within-requires
+    widths-within-requires
     returns)

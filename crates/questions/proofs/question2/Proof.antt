@@ -7,15 +7,11 @@ use Rattle.questions.proofs.question2.Tie as tie
 bytes-within-requires : tie.Need-bytes-within-requires
 bytes-within-requires c κs = search needs
 
-sub-kinds-in-order : tie.Need-sub-kinds-in-order
-sub-kinds-in-order c = search needs
-
-kinds-in-order-requires : tie.Need-kinds-in-order-requires
-kinds-in-order-requires c κs = search needs
+bytes-in-order-requires : tie.Need-bytes-in-order-requires
+bytes-in-order-requires c κs = search needs
 
 returns : tie.Need-returns
-returns c = question2-by _ _ (c .before .before .before .pre .0) (c .before .bytes-within .ensures) (c .kinds-in-order .ensures)
+returns c = question2-by _ _ (c .before .before .before .pre .0) (c .before .bytes-within .ensures) (c .bytes-in-order .ensures)
 
 pub question2-spec : {M : Type 1} → statement M
-question2-spec =
-    tie.close (tie.spec bytes-within-requires sub-kinds-in-order kinds-in-order-requires returns)
+question2-spec = tie.close (tie.spec bytes-within-requires bytes-in-order-requires returns)

@@ -1,12 +1,15 @@
--- `questions::question3` meets its contract: the code is the definition.
+-- `questions::question3` meets its contract: the code is the definition, layer by layer.
+use mathlib.Core.Path.{refl}
 use borrow.Author.Needs.{needs}
-use Rattle.net.specs.Questions.{question3}
+use Rattle.questions.proofs.Regroup.{question3-by}
 use Rattle.questions.proofs.question3.Statement.{statement}
 use Rattle.questions.proofs.question3.Tie as tie
 
+sub-second : tie.Need-sub-second
+sub-second c = search needs
+
 returns : tie.Need-returns
-unfolding question3
-returns c = search needs
+returns c = question3-by _ _ refl
 
 pub question3-spec : {M : Type 1} → statement M
-question3-spec = tie.close (tie.spec returns)
+question3-spec = tie.close (tie.spec sub-second returns)

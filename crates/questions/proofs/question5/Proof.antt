@@ -25,22 +25,15 @@ words-within-requires-3 c κs = search needs
 words-within-requires-4 : tie.Need-words-within-requires-4
 words-within-requires-4 c κs = search needs
 
-add-bytes-zero : tie.Need-add-bytes-zero
-add-bytes-zero c = search needs
-
-bytes-zero-requires-3 : tie.Need-bytes-zero-requires-3
-bytes-zero-requires-3 c κs = search needs
-
 returns : tie.Need-returns
 returns c =
     question5-by _ _
-    (c .before .before .before .before .before .before .before .bytes-zero .ensures)
-    (c .before .before .before .before .before .before .words-within .ensures)
-    (c .before .before .before .before .before .bytes-zero2 .ensures)
-    (c .before .before .before .before .words-within2 .ensures)
-    (c .before .before .before .words-within3 .ensures)
-    (c .before .before .words-within4 .ensures)
-    (c .bytes-zero3 .ensures)
+    (c .before .before .before .before .before .bytes-zero .ensures)
+    (c .before .before .before .before .words-within .ensures)
+    (c .before .before .before .bytes-zero2 .ensures)
+    (c .before .before .words-within2 .ensures)
+    (c .before .words-within3 .ensures)
+    (c .words-within4 .ensures)
 
 pub question5-spec : {M : Type 1} → statement M
 question5-spec =
@@ -53,6 +46,4 @@ question5-spec =
     words-within-requires-2
     words-within-requires-3
     words-within-requires-4
-    add-bytes-zero
-    bytes-zero-requires-3
     returns)

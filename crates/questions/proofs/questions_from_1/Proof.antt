@@ -3,7 +3,7 @@ use mathlib.Core.Path.{refl}
 use borrow.Author.Needs.{needs}
 use native.Mathlib.Omega.{arith}
 use Rattle.runs.proofs.Ends.{kinds-known}
-use Rattle.questions.proofs.Numbers.{some-record, counted-all, counted-held, refused-1, refused-2, asked-from-3}
+use Rattle.questions.proofs.Numbers.{some-record, counted-all, counted-held, refused-1, refused-2, asked-from-24}
 use Rattle.questions.proofs.questions_from_1.Statement.{statement}
 use Rattle.questions.proofs.questions_from_1.Tie as tie
 
@@ -28,11 +28,11 @@ returns-2 c = refused-2 _ (c .before .before .before .before .question1 .ensures
 count-requires : tie.Need-count-requires
 count-requires c κs = (omega arith, kinds-known _ (c .before .question2 .ensures) (c .if2 .left))
 
-questions-from-3-requires : tie.Need-questions-from-3-requires
-questions-from-3-requires c κs = counted-held _ _ (omega arith) (c .count .ensures)
+questions-from-24-requires : tie.Need-questions-from-24-requires
+questions-from-24-requires c κs = counted-held _ _ (omega arith) (c .count .ensures)
 
 returns-3 : tie.Need-returns-3
-returns-3 c = asked-from-3 _ (c .before .before .before .before .before .question1 .ensures) (c .before .before .before .before .if1 .left) (c .before .before .before .question2 .ensures) (c .before .before .if2 .left) _ _ _ (omega arith) (counted-all _ _ (omega arith) (c .before .count .ensures)) (c .questions-from-3 .ensures)
+returns-3 c = asked-from-24 _ (c .before .before .before .before .before .question1 .ensures) (c .before .before .before .before .if1 .left) (c .before .before .before .question2 .ensures) (c .before .before .if2 .left) _ _ _ (omega arith) (counted-all _ _ (omega arith) (c .before .count .ensures)) (c .questions-from-24 .ensures)
 
 pub questions-from-1-spec : {M : Type 1} → statement M
 questions-from-1-spec =
@@ -45,5 +45,5 @@ questions-from-1-spec =
     uncounted-requires-2
     returns-2
     count-requires
-    questions-from-3-requires
+    questions-from-24-requires
     returns-3)

@@ -1,5 +1,6 @@
 -- `runs::count` meets its contract: what lies between the ends of two kinds is the run of one.
 use borrow.Author.Needs.{needs}
+use native.Mathlib.Omega.{arith}
 use Rattle.runs.proofs.Ends.{up-to-next, ends-order, counts-runs}
 use Rattle.runs.proofs.count.Statement.{statement}
 use Rattle.runs.proofs.count.Tie as tie
@@ -13,19 +14,30 @@ end-of-requires-2 c κs = (c .before .before .pre .0, (c .before .before .pre .1
 end-of-requires-3 : tie.Need-end-of-requires-3
 end-of-requires-3 c κs = (c .before .before .before .pre .0, (c .before .before .before .pre .1, up-to-next (c .end-of2 .ensures)))
 
-sub-t6 : tie.Need-sub-t6
-sub-t6 c = ends-order (c .before .before .end-of .ensures) (c .before .end-of2 .ensures)
+count-layer0-requires : tie.Need-count-layer0-requires
+count-layer0-requires c κs = omega (arith, c .before .before .end-of .ensures .front .within)
 
 sub-t7 : tie.Need-sub-t7
-sub-t7 c = ends-order (c .before .end-of2 .ensures) (c .end-of3 .ensures)
+sub-t7 c = ends-order (c .before .before .before .end-of .ensures) (c .before .before .end-of2 .ensures)
 
 sub-t8 : tie.Need-sub-t8
-sub-t8 c = search needs
+sub-t8 c = ends-order (c .before .before .end-of2 .ensures) (c .before .end-of3 .ensures)
+
+sub-t9 : tie.Need-sub-t9
+sub-t9 c = search needs
 
 returns : tie.Need-returns
-returns c = counts-runs (c .before .before .before .before .pre .1) (c .before .before .end-of .ensures) (c .before .end-of2 .ensures) (c .end-of3 .ensures)
+returns c = counts-runs (c .before .before .before .before .before .pre .1) (c .before .before .before .end-of .ensures) (c .before .before .end-of2 .ensures) (c .before .end-of3 .ensures) (c .count-layer0 .ensures)
 
 pub count-spec : {M : Type 1} → statement M
 count-spec =
     tie.close
-    (tie.spec end-of-requires end-of-requires-2 end-of-requires-3 sub-t6 sub-t7 sub-t8 returns)
+    (tie.spec
+    end-of-requires
+    end-of-requires-2
+    end-of-requires-3
+    count-layer0-requires
+    sub-t7
+    sub-t8
+    sub-t9
+    returns)

@@ -16,6 +16,7 @@ use borrow.Fn.PlainCycle.{Measures, is, falls, and}
 use Rattle.search.proofs.search.Reads as search′
 use Rattle.search.proofs.search.Kinds as search-kinds
 use Rattle.search.proofs.+search.Lts-search as search-lts
+use Rattle.place.proofs.rows_at.Reads as rows-at-reads
 use Rattle.place.proofs.step.Reads as step-reads
 use Rattle.quantity.proofs.add_capacitance.Reads as add-capacitance-reads
 use Rattle.quantity.proofs.add_delay.Reads as add-delay-reads
@@ -36,6 +37,8 @@ search-below t = and 12 search-kinds.ps (falls 12 search-kinds.ps _<_ μ-search 
 -- what each callee asks and tells
 abbrev search-claims : ℕ → search-lts.Claims
 search-claims t = (
+  rows-at-reads.Asked,
+  rows-at-reads.Learnt,
   add-capacitance-reads.Asked,
   add-capacitance-reads.Learnt,
   step-reads.Asked,
@@ -51,214 +54,224 @@ search-claims t = (
 )
 
 abbrev search-Inv-loop : search-lts.InvT-loop
-search-Inv-loop job counts weights upstream driven ups skips lower upper left added x₀ gathered₀ lean₀ wide₀ p rest next further weight before load node others top k₀ best₀ x gathered lean wide k best =
+search-Inv-loop job counts weights upstream driven ups skips lower upper left added x₀ gathered₀ lean₀ wide₀ p rows rest next next-rows further weight before load node others top k₀ best₀ x gathered lean wide k best =
     Turning (netBy counts job) lower upper p x₀ (found (best₀ .0) lean₀ wide₀) x k (found (best .0) lean wide) × ((v : ℕ) → set gathered node v ≡ set gathered₀ node v)
 
 abbrev search-μ-loop : search-lts.MeasureT-loop
-search-μ-loop job counts weights upstream driven ups skips lower upper left added x₀ gathered₀ lean₀ wide₀ p rest next further weight before load node others top k₀ best₀ x gathered lean wide k best = suc top - k
+search-μ-loop job counts weights upstream driven ups skips lower upper left added x₀ gathered₀ lean₀ wide₀ p rows rest next next-rows further weight before load node others top k₀ best₀ x gathered lean wide k best = suc top - k
 
 search-sub-p : (t : ℕ) → search-lts.Need-sub-p (search-claims t) (search-at t) search′.Post search-Inv-loop search-μ-loop
 search-sub-p t c =
     let b = c .before .before .before .before .before .before in
     omega (arith, b .pre .1 .1 .1 .0)
 
+search-rows-at-requires : (t : ℕ) → search-lts.Need-rows-at-requires (search-claims t) (search-at t) search′.Post search-Inv-loop search-μ-loop
+search-rows-at-requires t c κs =
+    let b = c .before .before .before .before .before .before in
+    (b .pre .1 .0 .checked, few (b .pre .1 .0) (b .pre .1 .1 .0) (b .args .least .0) (b .pre .1 .1 .1 .0) (b .pre .1 .1 .1 .1))
+
 search-mul-rest : (t : ℕ) → search-lts.Need-mul-rest (search-claims t) (search-at t) search′.Post search-Inv-loop search-μ-loop
 search-mul-rest t c =
-    let b = c .before .before .before .before .before .before in
+    let b = c .before .before .before .before .before .before .before in
     omega (arith, b .pre .1 .1 .0 .few, b .pre .1 .1 .1 .0, b .pre .1 .0 .checked .fewStages, b .pre .1 .0 .checked .fewSegments)
 
 search-element-copy-out-rest : (t : ℕ) → search-lts.Need-element-copy-out-rest (search-claims t) (search-at t) search′.Post search-Inv-loop search-μ-loop
 search-element-copy-out-rest t c =
-    let b = c .before .before .before .before .before .before in
+    let b = c .before .before .before .before .before .before .before in
     omega (arith, b .pre .1 .1 .0 .few, b .pre .1 .1 .1 .0, b .pre .1 .0 .checked .fewStages, b .pre .1 .0 .checked .fewSegments)
 
 search-sub-next : (t : ℕ) → search-lts.Need-sub-next (search-claims t) (search-at t) search′.Post search-Inv-loop search-μ-loop
 search-sub-next t c =
-    let b = c .before .before .before .before .before .before .before in
+    let b = c .before .before .before .before .before .before .before .before in
     omega (arith, b .pre .1 .1 .1 .2)
+
+search-rows-at-requires-2 : (t : ℕ) → search-lts.Need-rows-at-requires-2 (search-claims t) (search-at t) search′.Post search-Inv-loop search-μ-loop
+search-rows-at-requires-2 t c κs =
+    let b = c .before .before .before .before .before .before .before .before in
+    (b .pre .1 .0 .checked, omega (arith, rest-low (b .pre .1 .0) (b .pre .1 .1 .0) (b .args .least .0) (b .pre .1 .1 .1 .0) (b .pre .1 .1 .1 .1), few (b .pre .1 .0) (b .pre .1 .1 .0) (b .args .least .0) (b .pre .1 .1 .1 .0) (b .pre .1 .1 .1 .1)))
 
 search-mul-further : (t : ℕ) → search-lts.Need-mul-further (search-claims t) (search-at t) search′.Post search-Inv-loop search-μ-loop
 search-mul-further t c =
-    let b = c .before .before .before .before .before .before .before in
+    let b = c .before .before .before .before .before .before .before .before .before in
     omega (arith, rest-low (b .pre .1 .0) (b .pre .1 .1 .0) (b .args .least .0) (b .pre .1 .1 .1 .0) (b .pre .1 .1 .1 .1), b .pre .1 .1 .0 .few, b .pre .1 .1 .1 .0, b .pre .1 .0 .checked .fewStages, b .pre .1 .0 .checked .fewSegments)
 
 search-element-copy-out-further : (t : ℕ) → search-lts.Need-element-copy-out-further (search-claims t) (search-at t) search′.Post search-Inv-loop search-μ-loop
 search-element-copy-out-further t c =
-    let b = c .before .before .before .before .before .before .before in
+    let b = c .before .before .before .before .before .before .before .before .before in
     omega (arith, rest-low (b .pre .1 .0) (b .pre .1 .1 .0) (b .args .least .0) (b .pre .1 .1 .1 .0) (b .pre .1 .1 .1 .1), b .pre .1 .1 .0 .few, b .pre .1 .1 .1 .0, b .pre .1 .0 .checked .fewStages, b .pre .1 .0 .checked .fewSegments)
 
 search-mul-weight : (t : ℕ) → search-lts.Need-mul-weight (search-claims t) (search-at t) search′.Post search-Inv-loop search-μ-loop
 search-mul-weight t c =
-    let b = c .before .before .before .before .before .before .before .before in
+    let b = c .before .before .before .before .before .before .before .before .before .before in
     omega (arith, b .pre .1 .1 .0 .few, b .pre .1 .1 .1 .0, b .pre .1 .0 .checked .fewStages, b .pre .1 .0 .checked .fewSegments)
 
 search-element-copy-out-weight : (t : ℕ) → search-lts.Need-element-copy-out-weight (search-claims t) (search-at t) search′.Post search-Inv-loop search-μ-loop
 search-element-copy-out-weight t c =
-    let b = c .before .before .before .before .before .before .before .before in
-    omega (arith, b .pre .1 .1 .0 .few, b .pre .1 .1 .1 .0, b .pre .1 .0 .checked .fewStages, b .pre .1 .0 .checked .fewSegments)
-
-search-mul-t39 : (t : ℕ) → search-lts.Need-mul-t39 (search-claims t) (search-at t) search′.Post search-Inv-loop search-μ-loop
-search-mul-t39 t c =
-    let b = c .before .before .before .before .before .before .before .before .before in
-    omega (arith, b .pre .1 .1 .0 .few, b .pre .1 .1 .1 .0, b .pre .1 .0 .checked .fewStages, b .pre .1 .0 .checked .fewSegments)
-
-search-element-copy-out-t44 : (t : ℕ) → search-lts.Need-element-copy-out-t44 (search-claims t) (search-at t) search′.Post search-Inv-loop search-μ-loop
-search-element-copy-out-t44 t c =
-    let b = c .before .before .before .before .before .before .before .before .before in
-    omega (arith, b .pre .1 .1 .0 .few, b .pre .1 .1 .1 .0, b .pre .1 .0 .checked .fewStages, b .pre .1 .0 .checked .fewSegments)
-
-search-mul-t36 : (t : ℕ) → search-lts.Need-mul-t36 (search-claims t) (search-at t) search′.Post search-Inv-loop search-μ-loop
-search-mul-t36 t c =
     let b = c .before .before .before .before .before .before .before .before .before .before in
     omega (arith, b .pre .1 .1 .0 .few, b .pre .1 .1 .1 .0, b .pre .1 .0 .checked .fewStages, b .pre .1 .0 .checked .fewSegments)
 
-search-element-copy-out-t44-2 : (t : ℕ) → search-lts.Need-element-copy-out-t44-2 (search-claims t) (search-at t) search′.Post search-Inv-loop search-μ-loop
-search-element-copy-out-t44-2 t c =
-    let b = c .before .before .before .before .before .before .before .before .before .before in
-    omega (arith, b .pre .1 .1 .0 .few, b .pre .1 .1 .1 .0, b .pre .1 .0 .checked .fewStages, b .pre .1 .0 .checked .fewSegments)
-
-search-add-t39 : (t : ℕ) → search-lts.Need-add-t39 (search-claims t) (search-at t) search′.Post search-Inv-loop search-μ-loop
-search-add-t39 t c =
+search-mul-t41 : (t : ℕ) → search-lts.Need-mul-t41 (search-claims t) (search-at t) search′.Post search-Inv-loop search-μ-loop
+search-mul-t41 t c =
     let b = c .before .before .before .before .before .before .before .before .before .before .before in
     omega (arith, b .pre .1 .1 .0 .few, b .pre .1 .1 .1 .0, b .pre .1 .0 .checked .fewStages, b .pre .1 .0 .checked .fewSegments)
 
-search-mul-t50 : (t : ℕ) → search-lts.Need-mul-t50 (search-claims t) (search-at t) search′.Post search-Inv-loop search-μ-loop
-search-mul-t50 t c =
+search-element-copy-out-t46 : (t : ℕ) → search-lts.Need-element-copy-out-t46 (search-claims t) (search-at t) search′.Post search-Inv-loop search-μ-loop
+search-element-copy-out-t46 t c =
     let b = c .before .before .before .before .before .before .before .before .before .before .before in
     omega (arith, b .pre .1 .1 .0 .few, b .pre .1 .1 .1 .0, b .pre .1 .0 .checked .fewStages, b .pre .1 .0 .checked .fewSegments)
 
-search-element-copy-out-t53 : (t : ℕ) → search-lts.Need-element-copy-out-t53 (search-claims t) (search-at t) search′.Post search-Inv-loop search-μ-loop
-search-element-copy-out-t53 t c =
-    let b = c .before .before .before .before .before .before .before .before .before .before .before in
+search-mul-t38 : (t : ℕ) → search-lts.Need-mul-t38 (search-claims t) (search-at t) search′.Post search-Inv-loop search-μ-loop
+search-mul-t38 t c =
+    let b = c .before .before .before .before .before .before .before .before .before .before .before .before in
+    omega (arith, b .pre .1 .1 .0 .few, b .pre .1 .1 .1 .0, b .pre .1 .0 .checked .fewStages, b .pre .1 .0 .checked .fewSegments)
+
+search-element-copy-out-t46-2 : (t : ℕ) → search-lts.Need-element-copy-out-t46-2 (search-claims t) (search-at t) search′.Post search-Inv-loop search-μ-loop
+search-element-copy-out-t46-2 t c =
+    let b = c .before .before .before .before .before .before .before .before .before .before .before .before in
+    omega (arith, b .pre .1 .1 .0 .few, b .pre .1 .1 .1 .0, b .pre .1 .0 .checked .fewStages, b .pre .1 .0 .checked .fewSegments)
+
+search-add-t41 : (t : ℕ) → search-lts.Need-add-t41 (search-claims t) (search-at t) search′.Post search-Inv-loop search-μ-loop
+search-add-t41 t c =
+    let b = c .before .before .before .before .before .before .before .before .before .before .before .before .before in
+    omega (arith, b .pre .1 .1 .0 .few, b .pre .1 .1 .1 .0, b .pre .1 .0 .checked .fewStages, b .pre .1 .0 .checked .fewSegments)
+
+search-mul-t52 : (t : ℕ) → search-lts.Need-mul-t52 (search-claims t) (search-at t) search′.Post search-Inv-loop search-μ-loop
+search-mul-t52 t c =
+    let b = c .before .before .before .before .before .before .before .before .before .before .before .before .before in
+    omega (arith, b .pre .1 .1 .0 .few, b .pre .1 .1 .1 .0, b .pre .1 .0 .checked .fewStages, b .pre .1 .0 .checked .fewSegments)
+
+search-element-copy-out-t55 : (t : ℕ) → search-lts.Need-element-copy-out-t55 (search-claims t) (search-at t) search′.Post search-Inv-loop search-μ-loop
+search-element-copy-out-t55 t c =
+    let b = c .before .before .before .before .before .before .before .before .before .before .before .before .before in
     omega (arith, b .pre .1 .1 .0 .few, b .pre .1 .1 .1 .0, b .pre .1 .0 .checked .fewStages, b .pre .1 .0 .checked .fewSegments)
 
 search-add-capacitance-requires : (t : ℕ) → search-lts.Need-add-capacitance-requires (search-claims t) (search-at t) search′.Post search-Inv-loop search-μ-loop
 search-add-capacitance-requires t c κs =
-    let b = c .before .before .before .before .before .before .before .before .before .before .before .before in
+    let b = c .before .before .before .before .before .before .before .before .before .before .before .before .before .before in
     omega (arith, load-most (b .pre .1 .0) (b .pre .1 .1 .0) (b .args .least .0) (b .pre .1 .1 .1 .0) (b .pre .1 .1 .1 .1) _ refl)
 
 search-mul-node : (t : ℕ) → search-lts.Need-mul-node (search-claims t) (search-at t) search′.Post search-Inv-loop search-μ-loop
 search-mul-node t c =
-    let b = c .before .before .before .before .before .before .before .before .before .before .before .before .before in
+    let b = c .before .before .before .before .before .before .before .before .before .before .before .before .before .before .before in
     omega (arith, b .pre .1 .1 .0 .few, b .pre .1 .1 .1 .0, b .pre .1 .0 .checked .fewStages, b .pre .1 .0 .checked .fewSegments)
 
 search-element-copy-out-node : (t : ℕ) → search-lts.Need-element-copy-out-node (search-claims t) (search-at t) search′.Post search-Inv-loop search-μ-loop
 search-element-copy-out-node t c =
-    let b = c .before .before .before .before .before .before .before .before .before .before .before .before .before in
+    let b = c .before .before .before .before .before .before .before .before .before .before .before .before .before .before .before in
     omega (arith, b .pre .1 .1 .0 .few, b .pre .1 .1 .1 .0, b .pre .1 .0 .checked .fewStages, b .pre .1 .0 .checked .fewSegments)
 
-search-mul-t50-2 : (t : ℕ) → search-lts.Need-mul-t50-2 (search-claims t) (search-at t) search′.Post search-Inv-loop search-μ-loop
-search-mul-t50-2 t c =
-    let b = c .before .before .before .before .before .before .before .before .before .before .before .before .before .before in
+search-mul-t52-2 : (t : ℕ) → search-lts.Need-mul-t52-2 (search-claims t) (search-at t) search′.Post search-Inv-loop search-μ-loop
+search-mul-t52-2 t c =
+    let b = c .before .before .before .before .before .before .before .before .before .before .before .before .before .before .before .before in
     omega (arith, node-low (b .pre .1 .0) (b .pre .1 .1 .0) (b .args .least .0) (b .pre .1 .1 .1 .0) (b .pre .1 .1 .1 .1), b .pre .1 .1 .0 .few, b .pre .1 .1 .1 .0, b .pre .1 .0 .checked .fewStages, b .pre .1 .0 .checked .fewSegments)
 
-search-element-copy-out-t44-3 : (t : ℕ) → search-lts.Need-element-copy-out-t44-3 (search-claims t) (search-at t) search′.Post search-Inv-loop search-μ-loop
-search-element-copy-out-t44-3 t c =
-    let b = c .before .before .before .before .before .before .before .before .before .before .before .before .before .before in
+search-element-copy-out-t46-3 : (t : ℕ) → search-lts.Need-element-copy-out-t46-3 (search-claims t) (search-at t) search′.Post search-Inv-loop search-μ-loop
+search-element-copy-out-t46-3 t c =
+    let b = c .before .before .before .before .before .before .before .before .before .before .before .before .before .before .before .before in
     omega (arith, node-low (b .pre .1 .0) (b .pre .1 .1 .0) (b .args .least .0) (b .pre .1 .1 .1 .0) (b .pre .1 .1 .1 .1), b .pre .1 .1 .0 .few, b .pre .1 .1 .1 .0, b .pre .1 .0 .checked .fewStages, b .pre .1 .0 .checked .fewSegments)
 
 search-shared-slice-read-top : (t : ℕ) → search-lts.Need-shared-slice-read-top (search-claims t) (search-at t) search′.Post search-Inv-loop search-μ-loop
 search-shared-slice-read-top t c =
-    let b = c .before .before .before .before .before .before .before .before .before .before .before .before .before .before .before .before in
+    let b = c .before .before .before .before .before .before .before .before .before .before .before .before .before .before .before .before .before .before in
     omega (arith, b .pre .1 .1 .0 .few, b .pre .1 .1 .1 .0, allowed-long (netBy (b .args .counts) (b .args .job .now)) (b .args .upper .now) (b .pre .1 .0 .upperAllowed))
 
 search-shared-slice-read-k : (t : ℕ) → search-lts.Need-shared-slice-read-k (search-claims t) (search-at t) search′.Post search-Inv-loop search-μ-loop
 search-shared-slice-read-k t c =
-    let b = c .before .before .before .before .before .before .before .before .before .before .before .before .before .before .before .before .before in
+    let b = c .before .before .before .before .before .before .before .before .before .before .before .before .before .before .before .before .before .before .before in
     omega (arith, b .pre .1 .1 .0 .few, b .pre .1 .1 .1 .0, allowed-long (netBy (b .args .counts) (b .args .job .now)) (b .args .lower .now) (b .pre .1 .0 .lowerAllowed))
 
 search-loop-holds : (t : ℕ) → search-lts.Need-loop-holds (search-claims t) (search-at t) search′.Post search-Inv-loop search-μ-loop
 search-loop-holds t c =
-    let b = c .before .before .before .before .before .before .before .before .before .before .before .before .before .before .before .before .before in
+    let b = c .before .before .before .before .before .before .before .before .before .before .before .before .before .before .before .before .before .before .before in
     (begin (b .pre .1 .0) (b .pre .1 .1 .0) (b .args .least .0) (b .pre .1 .1 .1 .0) (b .pre .1 .1 .1 .1), λ v. refl)
 
 search-step-requires : (t : ℕ) → search-lts.Need-step-requires (search-claims t) (search-at t) search′.Post search-Inv-loop search-μ-loop
 search-step-requires t c κs =
-    let b = c .before .before .before .before .before .before .before .before .before .before .before .before .before .before .before .before .before .before .before in
+    let b = c .before .before .before .before .before .before .before .before .before .before .before .before .before .before .before .before .before .before .before .before .before in
     let l = c .before .loop in
-    (b .pre .1 .0 .checked, (few (b .pre .1 .0) (b .pre .1 .1 .0) (b .args .least .0) (b .pre .1 .1 .1 .0) (b .pre .1 .1 .1 .1), high (b .pre .1 .0) (b .pre .1 .1 .0) (b .args .least .0) (b .pre .1 .1 .1 .0) (b .pre .1 .1 .1 .1) (l .inv .0) (c .loop-test .taken), weight-most (b .pre .1 .0) (b .pre .1 .1 .0) (b .args .least .0) (b .pre .1 .1 .1 .0) (b .pre .1 .1 .1 .1), resistance-most (b .pre .1 .0) (b .pre .1 .1 .0) (b .args .least .0) (b .pre .1 .1 .1 .0) (b .pre .1 .1 .1 .1), load-most (b .pre .1 .0) (b .pre .1 .1 .0) (b .args .least .0) (b .pre .1 .1 .1 .0) (b .pre .1 .1 .1 .1) _ (c .before .before .before .before .before .before .add-capacitance .ensures .0)))
+    (b .pre .1 .0 .checked, (c .before .before .before .before .before .before .before .before .before .before .before .before .before .before .rows-at .ensures, (few (b .pre .1 .0) (b .pre .1 .1 .0) (b .args .least .0) (b .pre .1 .1 .1 .0) (b .pre .1 .1 .1 .1), high (b .pre .1 .0) (b .pre .1 .1 .0) (b .args .least .0) (b .pre .1 .1 .1 .0) (b .pre .1 .1 .1 .1) (l .inv .0) (c .loop-test .taken), weight-most (b .pre .1 .0) (b .pre .1 .1 .0) (b .args .least .0) (b .pre .1 .1 .1 .0) (b .pre .1 .1 .1 .1), resistance-most (b .pre .1 .0) (b .pre .1 .1 .0) (b .args .least .0) (b .pre .1 .1 .1 .0) (b .pre .1 .1 .1 .1), load-most (b .pre .1 .0) (b .pre .1 .1 .0) (b .args .least .0) (b .pre .1 .1 .1 .0) (b .pre .1 .1 .1 .1) _ (c .before .before .before .before .before .before .add-capacitance .ensures .0))))
 
 search-add-delay-requires : (t : ℕ) → search-lts.Need-add-delay-requires (search-claims t) (search-at t) search′.Post search-Inv-loop search-μ-loop
 search-add-delay-requires t c κs =
-    let b = c .before .before .before .before .before .before .before .before .before .before .before .before .before .before .before .before .before .before .before .before in
+    let b = c .before .before .before .before .before .before .before .before .before .before .before .before .before .before .before .before .before .before .before .before .before .before in
     let l = c .before .before .loop in
     fits (b .pre .1 .0) (b .pre .1 .1 .0) (b .args .least .0) (b .pre .1 .1 .1 .0) (b .pre .1 .1 .1 .1) (l .inv .0) (c .before .loop-test .taken) _ (c .before .before .before .before .before .before .before .add-capacitance .ensures .0) (c .step .result) (c .step .ensures)
 
 search-slice-write-x : (t : ℕ) → search-lts.Need-slice-write-x (search-claims t) (search-at t) search′.Post search-Inv-loop search-μ-loop
 search-slice-write-x t c =
-    let b = c .before .before .before .before .before .before .before .before .before .before .before .before .before .before .before .before .before .before .before .before .before .before in
+    let b = c .before .before .before .before .before .before .before .before .before .before .before .before .before .before .before .before .before .before .before .before .before .before .before .before in
     let l = c .before .before .before .before .loop in
     omega (arith, b .pre .1 .1 .0 .few, b .pre .1 .1 .1 .0, allowed-long (netBy (b .args .counts) (b .args .job .now)) (l .x) (l .inv .0 .allowed))
 
 search-add-capacitance-requires-2 : (t : ℕ) → search-lts.Need-add-capacitance-requires-2 (search-claims t) (search-at t) search′.Post search-Inv-loop search-μ-loop
 search-add-capacitance-requires-2 t c κs =
-    let b = c .before .before .before .before .before .before .before .before .before .before .before .before .before .before .before .before .before .before .before .before .before .before in
+    let b = c .before .before .before .before .before .before .before .before .before .before .before .before .before .before .before .before .before .before .before .before .before .before .before .before in
     let l = c .before .before .before .before .loop in
     omega (arith, others-small (b .pre .1 .0) (b .pre .1 .1 .0) (b .args .least .0) (b .pre .1 .1 .1 .0) (b .pre .1 .1 .1 .1), shown-small (b .pre .1 .0) (b .pre .1 .1 .0) (b .args .least .0) (b .pre .1 .1 .1 .0) (b .pre .1 .1 .1 .1) (l .inv .0) (c .before .before .before .loop-test .taken) _ (c .before .before .before .before .before .before .before .before .before .add-capacitance .ensures .0) (c .before .before .step .result) (c .before .before .step .ensures))
 
 search-mul-gathered : (t : ℕ) → search-lts.Need-mul-gathered (search-claims t) (search-at t) search′.Post search-Inv-loop search-μ-loop
 search-mul-gathered t c =
-    let b = c .before .before .before .before .before .before .before .before .before .before .before .before .before .before .before .before .before .before .before .before .before .before .before in
+    let b = c .before .before .before .before .before .before .before .before .before .before .before .before .before .before .before .before .before .before .before .before .before .before .before .before .before in
     omega (arith, node-low (b .pre .1 .0) (b .pre .1 .1 .0) (b .args .least .0) (b .pre .1 .1 .1 .0) (b .pre .1 .1 .1 .1), b .pre .1 .1 .0 .few, b .pre .1 .1 .1 .0, b .pre .1 .0 .checked .fewStages, b .pre .1 .0 .checked .fewSegments)
 
 search-element-write-gathered : (t : ℕ) → search-lts.Need-element-write-gathered (search-claims t) (search-at t) search′.Post search-Inv-loop search-μ-loop
 search-element-write-gathered t c =
-    let b = c .before .before .before .before .before .before .before .before .before .before .before .before .before .before .before .before .before .before .before .before .before .before .before in
+    let b = c .before .before .before .before .before .before .before .before .before .before .before .before .before .before .before .before .before .before .before .before .before .before .before .before .before in
     omega (arith, node-low (b .pre .1 .0) (b .pre .1 .1 .0) (b .args .least .0) (b .pre .1 .1 .1 .0) (b .pre .1 .1 .1 .1), b .pre .1 .1 .0 .few, b .pre .1 .1 .1 .0, b .pre .1 .0 .checked .fewStages, b .pre .1 .0 .checked .fewSegments)
 
 search-add-k : (t : ℕ) → search-lts.Need-add-k (search-claims t) (search-at t) search′.Post search-Inv-loop search-μ-loop
 search-add-k t c =
-    let b = c .before .before .before .before .before .before .before .before .before .before .before .before .before .before .before .before .before .before .before .before .before .before .before in
+    let b = c .before .before .before .before .before .before .before .before .before .before .before .before .before .before .before .before .before .before .before .before .before .before .before .before .before in
     omega (arith, c .before .before .before .before .loop-test .taken, small (b .pre .1 .0) (b .pre .1 .1 .0) (b .args .least .0) (b .pre .1 .1 .1 .0) (b .pre .1 .1 .1 .1))
 
 search-mul-pass-over : (t : ℕ) → search-lts.Need-mul-pass-over (search-claims t) (search-at t) search′.Post search-Inv-loop search-μ-loop
 search-mul-pass-over t c =
-    let b = c .before .before .before .before .before .before .before .before .before .before .before .before .before .before .before .before .before .before .before .before .before .before .before .before in
+    let b = c .before .before .before .before .before .before .before .before .before .before .before .before .before .before .before .before .before .before .before .before .before .before .before .before .before .before in
     omega (arith, rest-low (b .pre .1 .0) (b .pre .1 .1 .0) (b .args .least .0) (b .pre .1 .1 .1 .0) (b .pre .1 .1 .1 .1), b .pre .1 .1 .0 .few, b .pre .1 .1 .1 .0, b .pre .1 .0 .checked .fewStages, b .pre .1 .0 .checked .fewSegments)
 
 search-element-copy-out-pass-over : (t : ℕ) → search-lts.Need-element-copy-out-pass-over (search-claims t) (search-at t) search′.Post search-Inv-loop search-μ-loop
 search-element-copy-out-pass-over t c =
-    let b = c .before .before .before .before .before .before .before .before .before .before .before .before .before .before .before .before .before .before .before .before .before .before .before .before in
+    let b = c .before .before .before .before .before .before .before .before .before .before .before .before .before .before .before .before .before .before .before .before .before .before .before .before .before .before in
     omega (arith, rest-low (b .pre .1 .0) (b .pre .1 .1 .0) (b .args .least .0) (b .pre .1 .1 .1 .0) (b .pre .1 .1 .1 .1), b .pre .1 .1 .0 .few, b .pre .1 .1 .1 .0, b .pre .1 .0 .checked .fewStages, b .pre .1 .0 .checked .fewSegments)
 
 search-add-pass-over : (t : ℕ) → search-lts.Need-add-pass-over (search-claims t) (search-at t) search′.Post search-Inv-loop search-μ-loop
 search-add-pass-over t c =
-    let b = c .before .before .before .before .before .before .before .before .before .before .before .before .before .before .before .before .before .before .before .before .before .before .before .before .before in
+    let b = c .before .before .before .before .before .before .before .before .before .before .before .before .before .before .before .before .before .before .before .before .before .before .before .before .before .before .before in
     omega (arith, rest-low (b .pre .1 .0) (b .pre .1 .1 .0) (b .args .least .0) (b .pre .1 .1 .1 .0) (b .pre .1 .1 .1 .1), b .pre .1 .1 .0 .few, b .pre .1 .1 .1 .0, b .pre .1 .0 .checked .fewStages, b .pre .1 .0 .checked .fewSegments)
 
 search-mul-pass-over-2 : (t : ℕ) → search-lts.Need-mul-pass-over-2 (search-claims t) (search-at t) search′.Post search-Inv-loop search-μ-loop
 search-mul-pass-over-2 t c =
-    let b = c .before .before .before .before .before .before .before .before .before .before .before .before .before .before .before .before .before .before .before .before .before .before .before .before .before in
+    let b = c .before .before .before .before .before .before .before .before .before .before .before .before .before .before .before .before .before .before .before .before .before .before .before .before .before .before .before in
     omega (arith, rest-low (b .pre .1 .0) (b .pre .1 .1 .0) (b .args .least .0) (b .pre .1 .1 .1 .0) (b .pre .1 .1 .1 .1), b .pre .1 .1 .0 .few, b .pre .1 .1 .1 .0, b .pre .1 .0 .checked .fewStages, b .pre .1 .0 .checked .fewSegments)
 
 search-element-copy-out-pass-over-2 : (t : ℕ) → search-lts.Need-element-copy-out-pass-over-2 (search-claims t) (search-at t) search′.Post search-Inv-loop search-μ-loop
 search-element-copy-out-pass-over-2 t c =
-    let b = c .before .before .before .before .before .before .before .before .before .before .before .before .before .before .before .before .before .before .before .before .before .before .before .before .before in
+    let b = c .before .before .before .before .before .before .before .before .before .before .before .before .before .before .before .before .before .before .before .before .before .before .before .before .before .before .before in
     omega (arith, rest-low (b .pre .1 .0) (b .pre .1 .1 .0) (b .args .least .0) (b .pre .1 .1 .1 .0) (b .pre .1 .1 .1 .1), b .pre .1 .1 .0 .few, b .pre .1 .1 .1 .0, b .pre .1 .0 .checked .fewStages, b .pre .1 .0 .checked .fewSegments)
 
 search-mul-pass-over-3 : (t : ℕ) → search-lts.Need-mul-pass-over-3 (search-claims t) (search-at t) search′.Post search-Inv-loop search-μ-loop
 search-mul-pass-over-3 t c =
-    let b = c .before .before .before .before .before .before .before .before .before .before .before .before .before .before .before .before .before .before .before .before .before .before .before .before .before .before in
+    let b = c .before .before .before .before .before .before .before .before .before .before .before .before .before .before .before .before .before .before .before .before .before .before .before .before .before .before .before .before in
     omega (arith, rest-low (b .pre .1 .0) (b .pre .1 .1 .0) (b .args .least .0) (b .pre .1 .1 .1 .0) (b .pre .1 .1 .1 .1), b .pre .1 .1 .0 .few, b .pre .1 .1 .1 .0, b .pre .1 .0 .checked .fewStages, b .pre .1 .0 .checked .fewSegments)
 
 search-element-copy-out-pass-over-3 : (t : ℕ) → search-lts.Need-element-copy-out-pass-over-3 (search-claims t) (search-at t) search′.Post search-Inv-loop search-μ-loop
 search-element-copy-out-pass-over-3 t c =
-    let b = c .before .before .before .before .before .before .before .before .before .before .before .before .before .before .before .before .before .before .before .before .before .before .before .before .before .before in
+    let b = c .before .before .before .before .before .before .before .before .before .before .before .before .before .before .before .before .before .before .before .before .before .before .before .before .before .before .before .before in
     omega (arith, rest-low (b .pre .1 .0) (b .pre .1 .1 .0) (b .args .least .0) (b .pre .1 .1 .1 .0) (b .pre .1 .1 .1 .1), b .pre .1 .1 .0 .few, b .pre .1 .1 .1 .0, b .pre .1 .0 .checked .fewStages, b .pre .1 .0 .checked .fewSegments)
 
-search-mul-t71 : (t : ℕ) → search-lts.Need-mul-t71 (search-claims t) (search-at t) search′.Post search-Inv-loop search-μ-loop
-search-mul-t71 t c =
-    let b = c .before .before .before .before .before .before .before .before .before .before .before .before .before .before .before .before .before .before .before .before .before .before .before .before .before .before .before in
+search-mul-t73 : (t : ℕ) → search-lts.Need-mul-t73 (search-claims t) (search-at t) search′.Post search-Inv-loop search-μ-loop
+search-mul-t73 t c =
+    let b = c .before .before .before .before .before .before .before .before .before .before .before .before .before .before .before .before .before .before .before .before .before .before .before .before .before .before .before .before .before in
     omega (arith, rest-low (b .pre .1 .0) (b .pre .1 .1 .0) (b .args .least .0) (b .pre .1 .1 .1 .0) (b .pre .1 .1 .1 .1), b .pre .1 .1 .0 .few, b .pre .1 .1 .1 .0, b .pre .1 .0 .checked .fewStages, b .pre .1 .0 .checked .fewSegments)
 
-search-element-copy-out-t78 : (t : ℕ) → search-lts.Need-element-copy-out-t78 (search-claims t) (search-at t) search′.Post search-Inv-loop search-μ-loop
-search-element-copy-out-t78 t c =
-    let b = c .before .before .before .before .before .before .before .before .before .before .before .before .before .before .before .before .before .before .before .before .before .before .before .before .before .before .before in
+search-element-copy-out-t80 : (t : ℕ) → search-lts.Need-element-copy-out-t80 (search-claims t) (search-at t) search′.Post search-Inv-loop search-μ-loop
+search-element-copy-out-t80 t c =
+    let b = c .before .before .before .before .before .before .before .before .before .before .before .before .before .before .before .before .before .before .before .before .before .before .before .before .before .before .before .before .before in
     omega (arith, rest-low (b .pre .1 .0) (b .pre .1 .1 .0) (b .args .least .0) (b .pre .1 .1 .1 .0) (b .pre .1 .1 .1 .1), b .pre .1 .1 .0 .few, b .pre .1 .1 .1 .0, b .pre .1 .0 .checked .fewStages, b .pre .1 .0 .checked .fewSegments)
 
 search-add-capacitance-requires-3 : (t : ℕ) → search-lts.Need-add-capacitance-requires-3 (search-claims t) (search-at t) search′.Post search-Inv-loop search-μ-loop
 search-add-capacitance-requires-3 t c κs =
-    let b = c .before .before .before .before .before .before .before .before .before .before .before .before .before .before .before .before .before .before .before .before .before .before .before .before .before .before .before .before in
+    let b = c .before .before .before .before .before .before .before .before .before .before .before .before .before .before .before .before .before .before .before .before .before .before .before .before .before .before .before .before .before .before in
     let l = c .before .before .before .before .before .before .before .before .before .before .loop in
     let n : at (b .args .skips .now) (b .args .left - 1) ≡ 0 → ⊥ = λ e. omega (arith, b .pre .1 .1 .1 .2) in
     let s = ready (b .pre .1 .0) (b .pre .1 .1 .0) (b .args .least .0) (b .pre .1 .1 .1 .0) (b .pre .1 .1 .1 .1) (l .inv .0) (c .before .before .before .before .before .before .before .before .before .loop-test .taken) _ (c .before .before .before .before .before .before .before .before .before .before .before .before .before .before .before .add-capacitance .ensures .0) (c .before .before .before .before .before .before .before .before .step .result) (c .before .before .before .before .before .before .before .before .step .ensures) (c .before .before .before .before .before .before .before .add-delay .result .0) _ (l .gathered) (c .before .before .before .before .before .before .before .add-delay .ensures .0) (c .before .before .before .before .before .add-capacitance2 .ensures .0) (l .inv .1) in
@@ -266,35 +279,38 @@ search-add-capacitance-requires-3 t c κs =
 
 search-shared-slice-read-pass-over : (t : ℕ) → search-lts.Need-shared-slice-read-pass-over (search-claims t) (search-at t) search′.Post search-Inv-loop search-μ-loop
 search-shared-slice-read-pass-over t c =
-    let b = c .before .before .before .before .before .before .before .before .before .before .before .before .before .before .before .before .before .before .before .before .before .before .before .before .before .before .before .before .before .before in
+    let b = c .before .before .before .before .before .before .before .before .before .before .before .before .before .before .before .before .before .before .before .before .before .before .before .before .before .before .before .before .before .before .before .before in
     omega (arith, rest-low (b .pre .1 .0) (b .pre .1 .1 .0) (b .args .least .0) (b .pre .1 .1 .1 .0) (b .pre .1 .1 .1 .1), b .pre .1 .1 .0 .few, b .pre .1 .1 .1 .0, allowed-long (netBy (b .args .counts) (b .args .job .now)) (b .args .lower .now) (b .pre .1 .0 .lowerAllowed))
 
 search-shared-slice-read-pass-over-2 : (t : ℕ) → search-lts.Need-shared-slice-read-pass-over-2 (search-claims t) (search-at t) search′.Post search-Inv-loop search-μ-loop
 search-shared-slice-read-pass-over-2 t c =
-    let b = c .before .before .before .before .before .before .before .before .before .before .before .before .before .before .before .before .before .before .before .before .before .before .before .before .before .before .before .before .before .before .before in
+    let b = c .before .before .before .before .before .before .before .before .before .before .before .before .before .before .before .before .before .before .before .before .before .before .before .before .before .before .before .before .before .before .before .before .before in
     omega (arith, rest-low (b .pre .1 .0) (b .pre .1 .1 .0) (b .args .least .0) (b .pre .1 .1 .1 .0) (b .pre .1 .1 .1 .1), b .pre .1 .1 .0 .few, b .pre .1 .1 .1 .0, allowed-long (netBy (b .args .counts) (b .args .job .now)) (b .args .upper .now) (b .pre .1 .0 .upperAllowed))
 
 search-pass-over-requires : (t : ℕ) → search-lts.Need-pass-over-requires (search-claims t) (search-at t) search′.Post search-Inv-loop search-μ-loop
 search-pass-over-requires t c κs =
-    let b = c .before .before .before .before .before .before .before .before .before .before .before .before .before .before .before .before .before .before .before .before .before .before .before .before .before .before .before .before .before .before .before in
+    let b = c .before .before .before .before .before .before .before .before .before .before .before .before .before .before .before .before .before .before .before .before .before .before .before .before .before .before .before .before .before .before .before .before .before in
     let l = c .before .before .before .before .before .before .before .before .before .before .before .before .before .loop in
     let n : at (b .args .skips .now) (b .args .left - 1) ≡ 0 → ⊥ = λ e. omega (arith, b .pre .1 .1 .1 .2) in
     let s = ready (b .pre .1 .0) (b .pre .1 .1 .0) (b .args .least .0) (b .pre .1 .1 .1 .0) (b .pre .1 .1 .1 .1) (l .inv .0) (c .before .before .before .before .before .before .before .before .before .before .before .before .loop-test .taken) _ (c .before .before .before .before .before .before .before .before .before .before .before .before .before .before .before .before .before .before .add-capacitance .ensures .0) (c .before .before .before .before .before .before .before .before .before .before .before .step .result) (c .before .before .before .before .before .before .before .before .before .before .before .step .ensures) (c .before .before .before .before .before .before .before .before .before .before .add-delay .result .0) _ (l .gathered) (c .before .before .before .before .before .before .before .before .before .before .add-delay .ensures .0) (c .before .before .before .before .before .before .before .before .add-capacitance2 .ensures .0) (l .inv .1) in (
       b .pre .1 .0 .checked,
       (
-        (few (b .pre .1 .0) s (l .best .0) (b .pre .1 .1 .1 .2) (rest-free (b .pre .1 .0) (b .pre .1 .1 .0) (b .args .least .0) (b .pre .1 .1 .1 .0) (b .pre .1 .1 .1 .1) n), top-high (b .pre .1 .0) s (l .best .0) (b .pre .1 .1 .1 .2) (rest-free (b .pre .1 .0) (b .pre .1 .1 .0) (b .args .least .0) (b .pre .1 .1 .1 .0) (b .pre .1 .1 .1 .1) n), weight-most (b .pre .1 .0) s (l .best .0) (b .pre .1 .1 .1 .2) (rest-free (b .pre .1 .0) (b .pre .1 .1 .0) (b .args .least .0) (b .pre .1 .1 .1 .0) (b .pre .1 .1 .1 .1) n), resistance-most (b .pre .1 .0) s (l .best .0) (b .pre .1 .1 .1 .2) (rest-free (b .pre .1 .0) (b .pre .1 .1 .0) (b .args .least .0) (b .pre .1 .1 .1 .0) (b .pre .1 .1 .1 .1) n), load-most (b .pre .1 .0) s (l .best .0) (b .pre .1 .1 .1 .2) (rest-free (b .pre .1 .0) (b .pre .1 .1 .0) (b .args .least .0) (b .pre .1 .1 .1 .0) (b .pre .1 .1 .1 .1) n) _ (c .before .before .add-capacitance3 .ensures .0)),
-        ((b .pre .1 .0 .inOrder _ (few (b .pre .1 .0) s (l .best .0) (b .pre .1 .1 .1 .2) (rest-free (b .pre .1 .0) (b .pre .1 .1 .0) (b .args .least .0) (b .pre .1 .1 .1 .0) (b .pre .1 .1 .1 .1) n)), small (b .pre .1 .0) s (l .best .0) (b .pre .1 .1 .1 .2) (rest-free (b .pre .1 .0) (b .pre .1 .1 .0) (b .args .least .0) (b .pre .1 .1 .1 .0) (b .pre .1 .1 .1 .1) n)), all-fit (b .pre .1 .0) s (l .best .0) (b .pre .1 .1 .1 .2) (rest-free (b .pre .1 .0) (b .pre .1 .1 .0) (b .args .least .0) (b .pre .1 .1 .1 .0) (b .pre .1 .1 .1 .1) n) _ (c .before .before .add-capacitance3 .ensures .0)),
+        c .before .before .before .before .before .before .before .before .before .before .before .before .before .before .before .before .before .before .before .before .before .before .before .before .rows-at2 .ensures,
+        (
+          (few (b .pre .1 .0) s (l .best .0) (b .pre .1 .1 .1 .2) (rest-free (b .pre .1 .0) (b .pre .1 .1 .0) (b .args .least .0) (b .pre .1 .1 .1 .0) (b .pre .1 .1 .1 .1) n), top-high (b .pre .1 .0) s (l .best .0) (b .pre .1 .1 .1 .2) (rest-free (b .pre .1 .0) (b .pre .1 .1 .0) (b .args .least .0) (b .pre .1 .1 .1 .0) (b .pre .1 .1 .1 .1) n), weight-most (b .pre .1 .0) s (l .best .0) (b .pre .1 .1 .1 .2) (rest-free (b .pre .1 .0) (b .pre .1 .1 .0) (b .args .least .0) (b .pre .1 .1 .1 .0) (b .pre .1 .1 .1 .1) n), resistance-most (b .pre .1 .0) s (l .best .0) (b .pre .1 .1 .1 .2) (rest-free (b .pre .1 .0) (b .pre .1 .1 .0) (b .args .least .0) (b .pre .1 .1 .1 .0) (b .pre .1 .1 .1 .1) n), load-most (b .pre .1 .0) s (l .best .0) (b .pre .1 .1 .1 .2) (rest-free (b .pre .1 .0) (b .pre .1 .1 .0) (b .args .least .0) (b .pre .1 .1 .1 .0) (b .pre .1 .1 .1 .1) n) _ (c .before .before .add-capacitance3 .ensures .0)),
+          ((b .pre .1 .0 .inOrder _ (few (b .pre .1 .0) s (l .best .0) (b .pre .1 .1 .1 .2) (rest-free (b .pre .1 .0) (b .pre .1 .1 .0) (b .args .least .0) (b .pre .1 .1 .1 .0) (b .pre .1 .1 .1 .1) n)), small (b .pre .1 .0) s (l .best .0) (b .pre .1 .1 .1 .2) (rest-free (b .pre .1 .0) (b .pre .1 .1 .0) (b .args .least .0) (b .pre .1 .1 .1 .0) (b .pre .1 .1 .1 .1) n)), all-fit (b .pre .1 .0) s (l .best .0) (b .pre .1 .1 .1 .2) (rest-free (b .pre .1 .0) (b .pre .1 .1 .0) (b .args .least .0) (b .pre .1 .1 .1 .0) (b .pre .1 .1 .1 .1) n) _ (c .before .before .add-capacitance3 .ensures .0)),
+        ),
       ),
     )
 
 search-shared-slice-read-if2 : (t : ℕ) → search-lts.Need-shared-slice-read-if2 (search-claims t) (search-at t) search′.Post search-Inv-loop search-μ-loop
 search-shared-slice-read-if2 t c =
-    let b = c .before .before .before .before .before .before .before .before .before .before .before .before .before .before .before .before .before .before .before .before .before .before .before .before .before .before .before .before .before .before .before .before .before in
+    let b = c .before .before .before .before .before .before .before .before .before .before .before .before .before .before .before .before .before .before .before .before .before .before .before .before .before .before .before .before .before .before .before .before .before .before .before in
     omega (arith, rest-low (b .pre .1 .0) (b .pre .1 .1 .0) (b .args .least .0) (b .pre .1 .1 .1 .0) (b .pre .1 .1 .1 .1), b .pre .1 .1 .0 .few, b .pre .1 .1 .1 .0, allowed-long (netBy (b .args .counts) (b .args .job .now)) (b .args .upper .now) (b .pre .1 .0 .upperAllowed))
 
 search-take-from-requires : (t : ℕ) → search-lts.Need-take-from-requires (search-claims t) (search-at t) search′.Post search-Inv-loop search-μ-loop
 search-take-from-requires t c κs =
-    let b = c .before .before .before .before .before .before .before .before .before .before .before .before .before .before .before .before .before .before .before .before .before .before .before .before .before .before .before .before .before .before .before .before .before .before .before .before .before .before in
+    let b = c .before .before .before .before .before .before .before .before .before .before .before .before .before .before .before .before .before .before .before .before .before .before .before .before .before .before .before .before .before .before .before .before .before .before .before .before .before .before .before .before in
     let l = c .before .before .before .before .before .before .before .before .before .before .before .before .before .before .before .before .before .before .before .before .loop in
     let n : at (b .args .skips .now) (b .args .left - 1) ≡ 0 → ⊥ = λ e. omega (arith, b .pre .1 .1 .1 .2) in
     let s = ready (b .pre .1 .0) (b .pre .1 .1 .0) (b .args .least .0) (b .pre .1 .1 .1 .0) (b .pre .1 .1 .1 .1) (l .inv .0) (c .before .before .before .before .before .before .before .before .before .before .before .before .before .before .before .before .before .before .before .loop-test .taken) _ (c .before .before .before .before .before .before .before .before .before .before .before .before .before .before .before .before .before .before .before .before .before .before .before .before .before .add-capacitance .ensures .0) (c .before .before .before .before .before .before .before .before .before .before .before .before .before .before .before .before .before .before .step .result) (c .before .before .before .before .before .before .before .before .before .before .before .before .before .before .before .before .before .before .step .ensures) (c .before .before .before .before .before .before .before .before .before .before .before .before .before .before .before .before .before .add-delay .result .0) _ (l .gathered) (c .before .before .before .before .before .before .before .before .before .before .before .before .before .before .before .before .before .add-delay .ensures .0) (c .before .before .before .before .before .before .before .before .before .before .before .before .before .before .before .add-capacitance2 .ensures .0) (l .inv .1) in
@@ -305,7 +321,7 @@ search-loop-less t c = omega (arith, c .before .before .before .before .before .
 
 search-loop-again : (t : ℕ) → search-lts.Need-loop-again (search-claims t) (search-at t) search′.Post search-Inv-loop search-μ-loop
 search-loop-again t c =
-    let b = c .before .before .before .before .before .before .before .before .before .before .before .before .before .before .before .before .before .before .before .before .before .before .before .before .before .before .before .before .before .before .before .before .before .before .before .before .before .before .before .before .before .before .before .before .before in
+    let b = c .before .before .before .before .before .before .before .before .before .before .before .before .before .before .before .before .before .before .before .before .before .before .before .before .before .before .before .before .before .before .before .before .before .before .before .before .before .before .before .before .before .before .before .before .before .before .before in
     let l = c .before .before .before .before .before .before .before .before .before .before .before .before .before .before .before .before .before .before .before .before .before .before .before .before .before .before .before .loop in
     let r = c .before .before .before .before .before .before .take-from in (
       done (b .pre .1 .0) (b .pre .1 .1 .0) (b .args .least .0) (b .pre .1 .1 .1 .0) (b .pre .1 .1 .1 .1) (l .inv .0) (c .before .before .before .before .before .before .before .before .before .before .before .before .before .before .before .before .before .before .before .before .before .before .before .before .before .before .loop-test .taken) _ (r .kept .1 .1 .1 .1 .1 .1 .1 .1 .1 .1 .1 .1 .1 .1 .1 .0) (r .kept .1 .1 .1 .1 .1 .1 .1 .1 .1 .1 .1 .1 .1 .1 .1 .1 .0) (r .ensures),
@@ -317,7 +333,7 @@ search-loop-less-2 t c = omega (arith, c .before .before .before .before .before
 
 search-loop-again-2 : (t : ℕ) → search-lts.Need-loop-again-2 (search-claims t) (search-at t) search′.Post search-Inv-loop search-μ-loop
 search-loop-again-2 t c =
-    let b = c .before .before .before .before .before .before .before .before .before .before .before .before .before .before .before .before .before .before .before .before .before .before .before .before .before .before .before .before .before .before .before .before .before .before in
+    let b = c .before .before .before .before .before .before .before .before .before .before .before .before .before .before .before .before .before .before .before .before .before .before .before .before .before .before .before .before .before .before .before .before .before .before .before .before in
     let l = c .before .before .before .before .before .before .before .before .before .before .before .before .before .before .before .before .loop in
     let n : at (b .args .skips .now) (b .args .left - 1) ≡ 0 → ⊥ = λ e. omega (arith, b .pre .1 .1 .1 .2) in
     let s = ready (b .pre .1 .0) (b .pre .1 .1 .0) (b .args .least .0) (b .pre .1 .1 .1 .0) (b .pre .1 .1 .1 .1) (l .inv .0) (c .before .before .before .before .before .before .before .before .before .before .before .before .before .before .before .loop-test .taken) _ (c .before .before .before .before .before .before .before .before .before .before .before .before .before .before .before .before .before .before .before .before .before .add-capacitance .ensures .0) (c .before .before .before .before .before .before .before .before .before .before .before .before .before .before .step .result) (c .before .before .before .before .before .before .before .before .before .before .before .before .before .before .step .ensures) (c .before .before .before .before .before .before .before .before .before .before .before .before .before .add-delay .result .0) _ (l .gathered) (c .before .before .before .before .before .before .before .before .before .before .before .before .before .add-delay .ensures .0) (c .before .before .before .before .before .before .before .before .before .before .before .add-capacitance2 .ensures .0) (l .inv .1) in (
@@ -328,7 +344,7 @@ search-loop-again-2 t c =
 
 search-search-requires : (t : ℕ) → search-lts.Need-search-requires (search-claims t) (search-at t) search′.Post search-Inv-loop search-μ-loop
 search-search-requires t c κs =
-    let b = c .before .before .before .before .before .before .before .before .before .before .before .before .before .before .before .before .before .before .before .before .before .before .before .before .before .before .before .before in
+    let b = c .before .before .before .before .before .before .before .before .before .before .before .before .before .before .before .before .before .before .before .before .before .before .before .before .before .before .before .before .before .before in
     let l = c .before .before .before .before .before .before .before .before .before .before .loop in
     let n : at (b .args .skips .now) (b .args .left - 1) ≡ 0 → ⊥ = λ e. omega (arith, b .pre .1 .1 .1 .2) in
     (omega (arith, rest-low (b .pre .1 .0) (b .pre .1 .1 .0) (b .args .least .0) (b .pre .1 .1 .1 .0) (b .pre .1 .1 .1 .1), b .pre .0, b .pre .1 .1 .1 .0), (b .pre .1 .0, (ready (b .pre .1 .0) (b .pre .1 .1 .0) (b .args .least .0) (b .pre .1 .1 .1 .0) (b .pre .1 .1 .1 .1) (l .inv .0) (c .before .before .before .before .before .before .before .before .before .loop-test .taken) _ (c .before .before .before .before .before .before .before .before .before .before .before .before .before .before .before .add-capacitance .ensures .0) (c .before .before .before .before .before .before .before .before .step .result) (c .before .before .before .before .before .before .before .before .step .ensures) (c .before .before .before .before .before .before .before .add-delay .result .0) _ (l .gathered) (c .before .before .before .before .before .before .before .add-delay .ensures .0) (c .before .before .before .before .before .add-capacitance2 .ensures .0) (l .inv .1), (b .pre .1 .1 .1 .2, rest-free (b .pre .1 .0) (b .pre .1 .1 .0) (b .args .least .0) (b .pre .1 .1 .1 .0) (b .pre .1 .1 .1 .1) n, omega (arith, c .before .before .before .before .if1 .left)))))
@@ -338,7 +354,7 @@ search-loop-less-3 t c = omega (arith, c .before .before .before .before .before
 
 search-loop-again-3 : (t : ℕ) → search-lts.Need-loop-again-3 (search-claims t) (search-at t) search′.Post search-Inv-loop search-μ-loop
 search-loop-again-3 t c =
-    let b = c .before .before .before .before .before .before .before .before .before .before .before .before .before .before .before .before .before .before .before .before .before .before .before .before .before .before .before .before .before .before .before .before .before .before .before in
+    let b = c .before .before .before .before .before .before .before .before .before .before .before .before .before .before .before .before .before .before .before .before .before .before .before .before .before .before .before .before .before .before .before .before .before .before .before .before .before in
     let l = c .before .before .before .before .before .before .before .before .before .before .before .before .before .before .before .before .before .loop in
     let r = c .before .before .before .before .before .before .search in (
       done (b .pre .1 .0) (b .pre .1 .1 .0) (b .args .least .0) (b .pre .1 .1 .1 .0) (b .pre .1 .1 .1 .1) (l .inv .0) (c .before .before .before .before .before .before .before .before .before .before .before .before .before .before .before .before .loop-test .taken) _ (r .kept .1 .1 .1 .1 .1 .1 .1 .1 .1 .1 .1 .1 .1 .1 .0) (r .kept .1 .1 .1 .1 .1 .1 .1 .1 .1 .1 .1 .1 .1 .1 .1 .0) (r .ensures),
@@ -347,35 +363,35 @@ search-loop-again-3 t c =
 
 search-mul-gathered-2 : (t : ℕ) → search-lts.Need-mul-gathered-2 (search-claims t) (search-at t) search′.Post search-Inv-loop search-μ-loop
 search-mul-gathered-2 t c =
-    let b = c .before .before .before .before .before .before .before .before .before .before .before .before .before .before .before .before .before .before .before in
+    let b = c .before .before .before .before .before .before .before .before .before .before .before .before .before .before .before .before .before .before .before .before .before in
     omega (arith, node-low (b .pre .1 .0) (b .pre .1 .1 .0) (b .args .least .0) (b .pre .1 .1 .1 .0) (b .pre .1 .1 .1 .1), b .pre .1 .1 .0 .few, b .pre .1 .1 .1 .0, b .pre .1 .0 .checked .fewStages, b .pre .1 .0 .checked .fewSegments)
 
 search-element-write-gathered-2 : (t : ℕ) → search-lts.Need-element-write-gathered-2 (search-claims t) (search-at t) search′.Post search-Inv-loop search-μ-loop
 search-element-write-gathered-2 t c =
-    let b = c .before .before .before .before .before .before .before .before .before .before .before .before .before .before .before .before .before .before .before in
+    let b = c .before .before .before .before .before .before .before .before .before .before .before .before .before .before .before .before .before .before .before .before .before in
     omega (arith, node-low (b .pre .1 .0) (b .pre .1 .1 .0) (b .args .least .0) (b .pre .1 .1 .1 .0) (b .pre .1 .1 .1 .1), b .pre .1 .1 .0 .few, b .pre .1 .1 .1 .0, b .pre .1 .0 .checked .fewStages, b .pre .1 .0 .checked .fewSegments)
 
 search-same-length : (t : ℕ) → search-lts.Need-same-length (search-claims t) (search-at t) search′.Post search-Inv-loop search-μ-loop
 search-same-length t c =
-    let b = c .before .before .before .before .before .before .before .before .before .before .before .before .before .before .before .before .before .before .before in
+    let b = c .before .before .before .before .before .before .before .before .before .before .before .before .before .before .before .before .before .before .before .before .before in
     let l = c .before .loop in
     allowed-long (netBy (b .args .counts) (b .args .job .now)) (l .x) (l .inv .0 .allowed) ∙ sym (allowed-long (netBy (b .args .counts) (b .args .job .now)) (b .args .x .now) (b .pre .1 .1 .0 .allowed))
 
 search-same-length-2 : (t : ℕ) → search-lts.Need-same-length-2 (search-claims t) (search-at t) search′.Post search-Inv-loop search-μ-loop
 search-same-length-2 t c =
-    let b = c .before .before .before .before .before .before .before .before .before .before .before .before .before .before .before .before .before .before .before in
+    let b = c .before .before .before .before .before .before .before .before .before .before .before .before .before .before .before .before .before .before .before .before .before in
     let l = c .before .loop in
     l .inv .0 .leanLong ∙ sym (b .pre .1 .1 .0 .leanLong)
 
 search-same-length-3 : (t : ℕ) → search-lts.Need-same-length-3 (search-claims t) (search-at t) search′.Post search-Inv-loop search-μ-loop
 search-same-length-3 t c =
-    let b = c .before .before .before .before .before .before .before .before .before .before .before .before .before .before .before .before .before .before .before in
+    let b = c .before .before .before .before .before .before .before .before .before .before .before .before .before .before .before .before .before .before .before .before .before in
     let l = c .before .loop in
     l .inv .0 .wideLong ∙ sym (b .pre .1 .1 .0 .wideLong)
 
 search-returns : (t : ℕ) → search-lts.Need-returns (search-claims t) (search-at t) search′.Post search-Inv-loop search-μ-loop
 search-returns t c =
-    let b = c .before .before .before .before .before .before .before .before .before .before .before .before .before .before .before .before .before .before .before in
+    let b = c .before .before .before .before .before .before .before .before .before .before .before .before .before .before .before .before .before .before .before .before .before in
     let l = c .before .loop in
     ended (b .pre .1 .0) (b .pre .1 .1 .0) (b .args .least .0) (b .pre .1 .1 .1 .0) (b .pre .1 .1 .1 .1) _ (l .inv .0) (c .loop-test .left) (l .inv .1 (at (b .args .gathered .now) (at (b .args .ups .now) (b .args .left - 1))) ∙ set-getD (b .args .gathered .now) (at (b .args .ups .now) (b .args .left - 1)) 0)
 
@@ -386,25 +402,27 @@ pub +search-spec : {M : Type 1} → statement M
     search-Inv-loop
     search-μ-loop
     (search-sub-p t)
+    (search-rows-at-requires t)
     (search-mul-rest t)
     (search-element-copy-out-rest t)
     (search-sub-next t)
+    (search-rows-at-requires-2 t)
     (search-mul-further t)
     (search-element-copy-out-further t)
     (search-mul-weight t)
     (search-element-copy-out-weight t)
-    (search-mul-t39 t)
-    (search-element-copy-out-t44 t)
-    (search-mul-t36 t)
-    (search-element-copy-out-t44-2 t)
-    (search-add-t39 t)
-    (search-mul-t50 t)
-    (search-element-copy-out-t53 t)
+    (search-mul-t41 t)
+    (search-element-copy-out-t46 t)
+    (search-mul-t38 t)
+    (search-element-copy-out-t46-2 t)
+    (search-add-t41 t)
+    (search-mul-t52 t)
+    (search-element-copy-out-t55 t)
     (search-add-capacitance-requires t)
     (search-mul-node t)
     (search-element-copy-out-node t)
-    (search-mul-t50-2 t)
-    (search-element-copy-out-t44-3 t)
+    (search-mul-t52-2 t)
+    (search-element-copy-out-t46-3 t)
     (search-shared-slice-read-top t)
     (search-shared-slice-read-k t)
     (search-loop-holds t)
@@ -422,8 +440,8 @@ pub +search-spec : {M : Type 1} → statement M
     (search-element-copy-out-pass-over-2 t)
     (search-mul-pass-over-3 t)
     (search-element-copy-out-pass-over-3 t)
-    (search-mul-t71 t)
-    (search-element-copy-out-t78 t)
+    (search-mul-t73 t)
+    (search-element-copy-out-t80 t)
     (search-add-capacitance-requires-3 t)
     (search-shared-slice-read-pass-over t)
     (search-shared-slice-read-pass-over-2 t)

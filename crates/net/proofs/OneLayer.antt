@@ -1,0 +1,219 @@
+-- The questions and the net as they were while a job had one layer, each named as the former one: a job whose layer bytes are all 0 gets the
+-- number that it got, and has the net that it had. None of the former ones is a definition of the library.
+use mathlib.Core.Path.{_≡_, _∙_, refl, ap₂}
+use mathlib.Core.Bool.{Bool, true, false, not, _&&_, _||_, and-true}
+use mathlib.Core.List.{List, [], _∷_, _++_}
+use Prim.Native.Nat.{ℕ, zero, suc, _+_, _*_, _-_, _≤_, _<_}
+use native.Mathlib.Nat.{zero-add}
+use native.Mathlib.Omega.{arith}
+use borrow.Author.Tests.{eq-eqb}
+use lib.Dec.{T, leb, ltb, eqb, leb→le, eqb→eq}
+use Rattle.lattice.specs.Lists.{every}
+use Rattle.lattice.proofs.ListLaws.{is-true, and-T, every-at, at-every}
+use Rattle.lattice.proofs.Every.{every-same}
+use Rattle.net.specs.declared.Counts.{Counts}
+use Rattle.net.specs.Job.{byte, records, kind, countIf, count, countsOf, widthAt, widthLayer, widthsOf, firstRow, sizeAt, stageAt, segmentAt, rowResistance, rowCapacitance, sizeResistance, sizeGate, segmentSink, segmentLength, sinkCapacitance, sinkWeight, segmentLowest, segmentHighest, segmentLayer}
+use Rattle.net.specs.Net.{Net, netBy, netOf}
+use Rattle.net.specs.Questions.{inRange, question1, question2, question24, question3, question4, zeros, question5, question6, question7, question8, question9, sinkOrZero, question10, question11, Question, ask, firstNo, jobQuestions}
+use Rattle.net.proofs.Records.{never-falls, counts-each, counts-alike, counts-grow, layer-0, layer-1}
+use Rattle.net.proofs.Questions.{in-range}
+
+-- The former 3. Is each kind's count in its range?
+unfoldable pub formerQuestion3 : Counts → Bool
+formerQuestion3 c = inRange 1 8 (c .widths) && (inRange 1 16 (c .sizes) && (inRange 1 4 (c .stages) && inRange 1 64 (c .segments)))
+
+module _ (c : Counts) (b : List ℕ) where
+  -- The former 4. Do numbers count from 0 in each kind?
+  unfoldable pub formerQuestion4 : Bool
+  formerQuestion4 =
+      every (c .widths) (λ k. eqb (byte b (widthAt k + 1)) k)
+      && (every (c .sizes) (λ k. eqb (byte b (sizeAt c k + 1)) k)
+      && (every (c .stages) (λ s. eqb (byte b (stageAt c s + 1)) s)
+      && every (c .segments) (λ i. eqb (byte b (segmentAt c i + 1)) i)))
+
+  -- The former 5. Are all unnamed bytes zero? Byte 2 of a width and byte 15 of a segment were among them.
+  unfoldable pub formerQuestion5 : Bool
+  formerQuestion5 =
+      every (c .widths) (λ k. zeros c b (widthAt k + 2) 2 && zeros c b (widthAt k + 12) 4)
+      && (every (c .sizes) (λ k. zeros c b (sizeAt c k + 2) 2)
+      && (every (c .stages) (λ s. zeros c b (stageAt c s + 4) 12)
+      && every (c .segments) (λ i. zeros c b (segmentAt c i + 15) 1)))
+
+  -- The former 7. In each of the two tables, does resistance strictly fall, and do width capacitance and gate capacitance strictly rise?
+  unfoldable pub formerQuestion7 : Bool
+  formerQuestion7 =
+      every (c .widths - 1)
+      (λ k. ltb (rowResistance b (suc k)) (rowResistance b k) && ltb (rowCapacitance b k) (rowCapacitance b (suc k)))
+      && every (c .sizes - 1)
+      (λ k. ltb (sizeResistance c b (suc k)) (sizeResistance c b k) && ltb (sizeGate c b k) (sizeGate c b (suc k)))
+
+  -- The former 10. Are segment fields in range, capacitance and weight 0 where there is no sink, and lowest ≤ highest < count of widths?
+  unfoldable pub formerQuestion10 : Bool
+  formerQuestion10 =
+      every (c .segments)
+      (λ i. inRange 0 1 (segmentSink c b i)
+      && (inRange 1 1000 (segmentLength c b i)
+      && (inRange 0 100000 (sinkCapacitance c b i)
+      && (inRange 0 255 (sinkWeight c b i)
+      && (sinkOrZero c b i && (leb (segmentLowest c b i) (segmentHighest c b i) && ltb (segmentHighest c b i) (c .widths)))))))
+
+  -- The former net: a segment's resistance is its row's times length, its capacitance likewise.
+  abbrev pub formerNet : Net
+  formerNet =
+      record {
+        stages = netBy c b .stages;
+        segments = netBy c b .segments;
+        lowest = netBy c b .lowest;
+        highest = netBy c b .highest;
+        driverResistance = netBy c b .driverResistance;
+        gate = netBy c b .gate;
+        output = netBy c b .output;
+        wireResistance = λ i k. rowResistance b k * segmentLength c b i;
+        wireCapacitance = λ i k. rowCapacitance b k * segmentLength c b i;
+        parent = netBy c b .parent;
+        sink = netBy c b .sink;
+        weight = netBy c b .weight;
+      }
+
+-- The former questions of a job.
+unfoldable pub formerQuestions : List ℕ → List Question
+formerQuestions b =
+    let c : Counts = countsOf b in
+    ask 1 (question1 b)
+    ∷ ask 2 (question2 b)
+    ∷ ask 3 (formerQuestion3 c)
+    ∷ ask 4 (formerQuestion4 c b)
+    ∷ ask 5 (formerQuestion5 c b)
+    ∷ ask 6 (question6 c b)
+    ∷ ask 7 (formerQuestion7 c b)
+    ∷ ask 8 (question8 c b)
+    ∷ ask 9 (question9 c b)
+    ∷ ask 10 (formerQuestion10 c b)
+    ∷ ask 11 (question11 c b)
+    ∷ []
+
+-- The layer bytes of a job are all 0: byte 2 of each width, byte 15 of each segment.
+pub record LayersZero (c : Counts) (b : List ℕ) : Type 0 where
+  pub widths : (k : ℕ) → k < c .widths → widthLayer b k ≡ 0
+  pub segments : (i : ℕ) → i < c .segments → segmentLayer c b i ≡ 0
+
+-- One layer: all widths are of layer 0, so its table is the one table, and layer 1 has none.
+module _ {c : Counts} {b : List ℕ} (z : LayersZero c b) (one : c .layer0 ≡ c .widths) where
+  all-rows : (widthsOf c 0 ≡ c .widths) × (firstRow c 0 ≡ 0)
+  all-rows = (layer-0 c .0 ∙ one, layer-0 c .1)
+
+  no-rows : widthsOf c 1 ≡ 0
+  no-rows = let e = layer-1 c 1 (λ n. omega (arith, n)) .0 in omega (arith, e, one)
+
+  same-24 : question24 c b ≡ true
+  unfolding question24
+  same-24 =
+      let first : (f : ℕ → Bool) (n : ℕ) → ((k : ℕ) → k < n → f k ≡ true) → every n f ≡ true = λ f n h. is-true _ (at-every n f (λ k l. rw (h k l) tt)) in
+      rw (first (λ k. inRange 0 1 (widthLayer b k)) (c .widths) (λ k h. rw (z .widths k h)))
+      (rw (first (λ i. inRange 0 1 (segmentLayer c b i)) (c .segments) (λ i h. rw (z .segments i h)))
+      (rw (first (λ k. leb (widthLayer b k) (widthLayer b (suc k))) (c .widths - 1) (λ k h. rw (z .widths k (omega arith), z .widths (suc k) (omega arith))))
+      (first (λ i. not (eqb (segmentLayer c b i) 1) || ltb 0 (widthsOf c 1)) (c .segments) (λ i h. rw (z .segments i h)))))
+
+  same-3 : question3 c ≡ formerQuestion3 c
+  unfolding question3 formerQuestion3
+  same-3 = rw (all-rows .0, no-rows)
+
+  -- a test of each row of both layers is that of each width
+  both-layers : (f : ℕ → ℕ → Bool) (n : ℕ → ℕ) → n 1 ≡ 0 → every 2 (λ l. every (n l) (f l)) ≡ every (n 0) (f 0)
+  unfolding every
+  both-layers f n e = rw e (and-true (every (n 0) (f 0)))
+
+  same-4 : question4 c b ≡ formerQuestion4 c b
+  unfolding question4 formerQuestion4
+  same-4 =
+      rw (both-layers (λ l k. eqb (byte b (widthAt (firstRow c l + k) + 1)) k) (widthsOf c) no-rows, all-rows .0, all-rows .1)
+      (ap₂ _&&_ (every-same (c .widths) _ _ (λ k h. rw (zero-add k))) refl)
+
+  same-7 : question7 c b ≡ formerQuestion7 c b
+  unfolding question7 formerQuestion7
+  same-7 =
+      rw (
+        both-layers
+            (λ l k. ltb (rowResistance b (firstRow c l + suc k)) (rowResistance b (firstRow c l + k)) && ltb (rowCapacitance b (firstRow c l + k)) (rowCapacitance b (firstRow c l + suc k)))
+            (λ l. widthsOf c l - 1) (rw no-rows),
+        all-rows .0,
+        all-rows .1,
+      )
+      (ap₂ _&&_ (every-same (c .widths - 1) _ _ (λ k h. rw (zero-add k, zero-add (suc k)))) refl)
+
+  -- where the first of two bytes is zero, both are zero exactly where the second is
+  second-byte : (r : ℕ) → byte b (r + 2) ≡ 0 → zeros c b (r + 3) 1 ≡ zeros c b (r + 2) 2
+  unfolding zeros every
+  second-byte r e =
+      let f : r + 2 + 0 ≡ r + 2 = omega arith in
+      let g : r + 2 + 1 ≡ r + 3 + 0 = omega arith in
+      rw (f, g, e)
+
+  last-byte : (r : ℕ) → byte b (r + 15) ≡ 0 → zeros c b (r + 15) 1 ≡ true
+  unfolding zeros every
+  last-byte r e = let f : r + 15 + 0 ≡ r + 15 = omega arith in rw (f, e)
+
+  same-5 : question5 c b ≡ formerQuestion5 c b
+  unfolding question5 formerQuestion5
+  same-5 =
+      let w : every (c .widths) (λ k. zeros c b (widthAt k + 3) 1 && zeros c b (widthAt k + 12) 4) ≡ every (c .widths) (λ k. zeros c b (widthAt k + 2) 2 && zeros c b (widthAt k + 12) 4) =
+      every-same (c .widths) _ _ (λ k h. ap₂ _&&_ (second-byte (widthAt k) (z .widths k h)) refl) in
+      let s : every (c .segments) (λ i. zeros c b (segmentAt c i + 15) 1) ≡ true =
+      is-true _ (at-every (c .segments) _ (λ i h. rw (last-byte (segmentAt c i) (z .segments i h)) tt)) in
+      rw (w, s, and-true)
+
+  same-10 : question10 c b ≡ formerQuestion10 c b
+  unfolding question10 formerQuestion10
+  same-10 = every-same (c .segments) _ _ (λ i h. rw (z .segments i h, all-rows .0))
+
+-- Where the kinds never fall, a record of kind 1 stands among the widths, so that its layer byte is 0.
+module _ (b : List ℕ) (z : LayersZero (countsOf b) b) (two : T (question2 b)) where
+  known : (r : ℕ) → r < records b → 1 ≤ kind b r
+  unfolding question2
+  known r h =
+      let a = and-T (every (records b) (λ k. inRange 1 4 (kind b k))) _ two .0 in
+      in-range 1 4 (kind b r) (every-at (records b) (λ k. inRange 1 4 (kind b k)) a r h) .0
+
+  in-order : (j k : ℕ) → j ≤ k → k < records b → kind b j ≤ kind b k
+  unfolding question2
+  in-order =
+      let a = and-T (every (records b) (λ k. inRange 1 4 (kind b k))) (every (records b - 1) (λ k. leb (kind b k) (kind b (suc k)))) two .1 in
+      never-falls (kind b) (records b) (λ k h. leb→le _ _ (every-at (records b - 1) (λ k. leb (kind b k) (kind b (suc k))) a k h))
+
+  among-widths : (r : ℕ) → r < records b → kind b r ≡ 1 → r < countsOf b .widths
+  unfolding countsOf countIf
+  among-widths r h e =
+      let f : (k : ℕ) → 0 ≤ k → k < suc r → eqb (kind b k) 1 ≡ true = λ k i l. eq-eqb (kind b k) 1 (omega (arith, e, known k (omega arith), in-order k r (omega arith) h)) in
+      omega (arith, counts-each (λ k. eqb (kind b k) 1) 0 (suc r) (omega arith) f, counts-grow (λ k. eqb (kind b k) 1) (suc r) (records b) h)
+
+  width-of-0 : (r : ℕ) → r < records b → eqb (kind b r) 1 && eqb (widthLayer b r) 0 ≡ eqb (kind b r) 1
+  width-of-0 r h = go (eqb (kind b r) 1) refl
+    where
+      go : (t : Bool) → eqb (kind b r) 1 ≡ t → t && eqb (widthLayer b r) 0 ≡ t
+      go true e = rw (z .widths r (among-widths r h (eqb→eq (kind b r) 1 (rw e tt))))
+      go false e = refl
+
+  one-layer : countsOf b .layer0 ≡ countsOf b .widths
+  unfolding countsOf
+  one-layer = counts-alike _ _ (records b) width-of-0
+
+-- one question more that is passed, and the others alike, wherever the first two are passed
+same-first : (p q t : Bool) (xs ys : List Question) → (T p → T q → (t ≡ true) × (xs ≡ ys))
+    → firstNo (ask 1 p ∷ ask 2 q ∷ ask 24 t ∷ xs) ≡ firstNo (ask 1 p ∷ ask 2 q ∷ ys)
+unfolding firstNo
+same-first false q t xs ys h = refl
+same-first true false t xs ys h = refl
+same-first true true t xs ys h = let a = h tt tt in rw (a .0, a .1)
+
+-- A job whose layer bytes are all 0: an operation asks the job's questions and then its own, whichever these are, and gets the number that it got.
+pub numbers-as-before : (b : List ℕ) (own : List Question) → LayersZero (countsOf b) b → firstNo (jobQuestions b ++ own) ≡ firstNo (formerQuestions b ++ own)
+unfolding jobQuestions formerQuestions
+numbers-as-before b own z =
+    same-first (question1 b) (question2 b) (question24 (countsOf b) b) _ _
+    (λ p q. let e = one-layer b z q in (same-24 z e, rw (same-3 z e, same-4 z e, same-5 z e, same-7 z e, same-10 z e)))
+
+-- Its net is the former one: the counts, the ranges, the drivers, the tree and its sinks by definition, and each segment's wire at each width.
+pub wires-as-before : (b : List ℕ) → LayersZero (countsOf b) b → (i k : ℕ) → i < countsOf b .segments
+    → (netOf b .wireResistance i k ≡ formerNet (countsOf b) b .wireResistance i k)
+    × (netOf b .wireCapacitance i k ≡ formerNet (countsOf b) b .wireCapacitance i k)
+wires-as-before b z i k h = (rw (z .segments i h, layer-0 (countsOf b) .1, zero-add k), rw (z .segments i h, layer-0 (countsOf b) .1, zero-add k))
