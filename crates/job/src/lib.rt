@@ -112,17 +112,23 @@ pub fn widths_of(counts: Counts, layer: usize) -> usize
     counts.widths - counts.layer0
 }
 
-// Where among the widths the table of segment i's layer starts.
-pub fn first_row(job: &[u8], counts: Counts, i: usize) -> usize
+// A byte of place p's record.
+pub fn place_byte(job: &[u8], counts: Counts, p: usize, at: usize) -> u8
     requires { ⌜ Held counts (now job) ⌝ }
-    requires { ⌜ i < counts .segments ⌝ }
-    ensures { λ r. ⌜ r ≡ firstRow counts (segmentLayer counts (now (job .entry)) i) ⌝ }
+    requires { ⌜ (p < placesBy counts) × (at < 16) ⌝ }
+    ensures { λ r. ⌜ r ≡ byte (now (job .entry)) (placeAt counts p + at) ⌝ }
 {
-    let layer = job[16 * (counts.widths + counts.sizes + (counts.stages + i)) + 15];
-    if layer == 0 {
-        return 0;
-    }
-    counts.layer0
+    job[16 * (counts.widths + counts.sizes + p) + at]
+}
+
+// Where among the widths the table of place p's layer starts. A stage has no layer, and the byte zero; a layer is 0 or 1, so the table starts at
+// layer times the widths of layer 0.
+pub fn first_row(job: &[u8], counts: Counts, p: usize) -> usize
+    requires { ⌜ Held counts (now job) ⌝ }
+    requires { ⌜ (p < placesBy counts) × (byte (now job) (placeAt counts p + 15) ≤ 1) ⌝ }
+    ensures { λ r. ⌜ r ≡ firstRow counts (byte (now (job .entry)) (placeAt counts p + 15)) ⌝ }
+{
+    index(place_byte(job, counts, p, 15)) * counts.layer0
 }
 
 // Segment i's wire at the width k, where the table of its layer starts at `rows`.
@@ -145,10 +151,12 @@ pub fn wire_from(job: &[u8], counts: Counts, rows: usize, i: usize, k: usize) ->
 // The same, where the layer is read for this one wire.
 pub fn wire_at(job: &[u8], counts: Counts, i: usize, k: usize) -> Wire
     requires { ⌜ Held counts (now job) ⌝ }
+    requires { ⌜ segmentLayer counts (now job) i ≤ 1 ⌝ }
     requires { ⌜ (i < counts .segments) × (k < widthsOf counts (segmentLayer counts (now job) i)) ⌝ }
     ensures { λ r. ⌜ WireAt (netBy counts (now (job .entry))) i k r ⌝ }
 {
-    wire_from(job, counts, first_row(job, counts, i), i, k)
+    let rows = first_row(job, counts, counts.stages + i);
+    wire_from(job, counts, rows, i, k)
 }
 
 // The resistance of a driver of the size k.
@@ -176,15 +184,6 @@ pub fn output(job: &[u8], counts: Counts, k: usize) -> Capacitance
     ensures { λ r. ⌜ r .0 ≡ netBy counts (now (job .entry)) .output k ⌝ }
 {
     Capacitance(size_word(job, counts, k, 12))
-}
-
-// A byte of place p's record.
-pub fn place_byte(job: &[u8], counts: Counts, p: usize, at: usize) -> u8
-    requires { ⌜ Held counts (now job) ⌝ }
-    requires { ⌜ (p < placesBy counts) × (at < 16) ⌝ }
-    ensures { λ r. ⌜ r ≡ byte (now (job .entry)) (placeAt counts p + at) ⌝ }
-{
-    job[16 * (counts.widths + counts.sizes + p) + at]
 }
 
 // A byte of place p's record that a stage has at one offset and a segment at another.

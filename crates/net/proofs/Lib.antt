@@ -7,12 +7,12 @@ pub mod Dominance
 pub mod Bound
 pub mod Places
 pub mod Records
+pub mod Unnamed
 pub mod Questions
 pub mod Answers
 pub mod Ties
 pub mod Demands
 pub mod Promises
-pub mod Unnamed
 pub mod Former
 pub mod OneLayer
 pub mod Starred

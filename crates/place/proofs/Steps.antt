@@ -41,13 +41,8 @@ module _ (net : Net) (w u k l : ℕ) (r : PlaceStep) where
 
 -- By cases: a stage, a segment.
 module _ (c : Counts) (b : List ℕ) where
-  pub rows-stage : (p : ℕ) → p < c .stages → rowsAt c b p ≡ 0
-  unfolding rowsAt
-  rows-stage p h = rw (lt-ltb p (c .stages) h)
-
   pub rows-segment : (p : ℕ) → c .stages ≤ p → rowsAt c b p ≡ firstRow c (segmentLayer c b (p - c .stages))
-  unfolding rowsAt
-  rows-segment p h = rw (le-ltb p (c .stages) h)
+  rows-segment p h = let e : c .stages + (p - c .stages) ≡ p = omega arith in rw e
 
 -- the index of a segment is one of its layer
 pub width-at : {c : Counts} {b : List ℕ} → Checked c b → (p : ℕ) → c .stages ≤ p → p < placesBy c

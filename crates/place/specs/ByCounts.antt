@@ -1,11 +1,9 @@
 -- What the contracts of this crate and of those above it say, of the net of a job, by the counts of its records and its bytes.
 use mathlib.Core.Path.{_≡_}
-use mathlib.Core.Bool.{cond}
 use mathlib.Core.List.{List}
-use Prim.Native.Nat.{ℕ, _+_, _*_, _-_, _^_, _≤_, _<_}
-use lib.Dec.{ltb}
+use Prim.Native.Nat.{ℕ, _+_, _*_, _^_, _≤_, _<_}
 use Rattle.net.specs.declared.Counts.{Counts}
-use Rattle.net.specs.Job.{placesBy, widthsOf, firstRow, segmentLayer}
+use Rattle.net.specs.Job.{byte, placesBy, widthsOf, firstRow, placeAt, segmentLayer}
 use Rattle.net.specs.Net.{netBy}
 use Rattle.net.specs.Places.{placeWeight}
 use Rattle.place.specs.declared.PlaceStep.{PlaceStep}
@@ -32,9 +30,9 @@ module _ (c : Counts) (b : List ℕ) where
   abbrev pub DriveInLimits : ℕ → ℕ → ℕ → Type 0
   DriveInLimits p k l = (p < placesBy c) × (k ≤ netBy c b .highest p) × (l ≤ 12900000)
 
-  -- Where the table of place p's layer starts; a stage has none.
-  unfoldable pub rowsAt : ℕ → ℕ
-  rowsAt p = cond (ltb p (c .stages)) 0 (firstRow c (segmentLayer c b (p - c .stages)))
+  -- Where the table of place p's layer starts; a stage has no layer, and the byte zero.
+  abbrev pub rowsAt : ℕ → ℕ
+  rowsAt p = firstRow c (byte b (placeAt c p + 15))
 
   -- Place p may have the index k, and has the weight w.
   abbrev pub IndexAndWeight : ℕ → ℕ → ℕ → Type 0

@@ -204,18 +204,6 @@ fn stage_step(
     charged_upstream(upstream, own, job::gate(job, counts, k))
 }
 
-// Where the table of place p's layer starts. A loop over the indices of a place reads its layer once, before it: a stage has none.
-pub fn rows_at(job: &[u8], counts: Counts, p: usize) -> usize
-    requires { ⌜ Checked counts (now job) ⌝ }
-    requires { ⌜ p < placesBy counts ⌝ }
-    ensures { λ r. ⌜ r ≡ rowsAt counts (now (job .entry)) p ⌝ }
-{
-    if p < counts.stages {
-        return 0;
-    }
-    job::first_row(job, counts, p - counts.stages)
-}
-
 // The step of segment i to the width k, where the table of its layer starts at `rows` and it drives the load `driven`.
 fn segment_step(
     job: &[u8],
@@ -241,7 +229,7 @@ fn segment_step(
 }
 
 // The step of place p to the index k, where it has the weight `weight`, the resistance `upstream` before it and the load `driven` behind it, and
-// the table of its layer starts at `rows`.
+// the table of its layer starts at `rows`: a loop over the indices of a place reads its layer once, before it.
 pub fn step_to(
     job: &[u8],
     counts: Counts,
@@ -314,7 +302,7 @@ pub fn step_at(
     requires { ⌜ StepInLimits counts (now job) weight (upstream .0) p k (driven .0) ⌝ }
     ensures { λ r. ⌜ Stepped counts (now (job .entry)) weight (upstream .0) p k (driven .0) r ⌝ }
 {
-    let rows = rows_at(job, counts, p);
+    let rows = job::first_row(job, counts, p);
     step(job, counts, weight, upstream, p, rows, k, driven)
 }
 

@@ -1,6 +1,6 @@
 -- The tests that the code asks of one run after another, put together to the questions as they are defined.
 use mathlib.Core.Path.{_≡_, _∙_, refl, sym, ap, ap₂}
-use mathlib.Core.Bool.{Bool, true, false, not, cond, _&&_, _||_, and-true, or-true}
+use mathlib.Core.Bool.{Bool, true, false, not, cond, _&&_, _||_, and-assoc, and-true, or-true}
 use mathlib.Core.List.{List}
 use Prim.Native.Nat.{ℕ, zero, suc, _+_, _*_, _-_, _%_, _≤_, _<_}
 use native.Mathlib.Nat.{zero-add, add-zero, add-assoc, div-add-mod'}
@@ -12,9 +12,9 @@ use lib.Dec.{leb, ltb, eqb, leb·zero}
 use lib.ListN.{length}
 use Rattle.lattice.specs.Lists.{every}
 use Rattle.net.specs.declared.Counts.{Counts}
-use Rattle.net.specs.Job.{byte, records, widthAt, widthLayer, widthsOf, firstRow, segmentAt, segmentLayer}
+use Rattle.net.specs.Job.{byte, records, widthAt, widthLayer, widthsOf, firstRow, segmentAt, segmentSink, segmentLength, sinkCapacitance, segmentLayer}
 use Rattle.net.specs.Questions.{inRange, question1, question2, question24, question3, question4, zeros, sinkOrZero, question5, question6, question7, question8, question9, question10}
-use Rattle.runs.specs.Records.{byteOf, byteInOrder, numberInOrder, zeroBytes, byteWithin, wordWithin, wordBelow, rangeWithin, widthsWithin, parentInOrder, sinkOrNone}
+use Rattle.runs.specs.Records.{byteOf, byteInOrder, numberInOrder, zeroBytes, byteWithin, wordWithin, wordBelow, rangeWithin, segmentFits, parentInOrder}
 use Rattle.net.proofs.Records.{layer-0, layer-1}
 use Rattle.questions.specs.Check.{topLayer, tableInOrder}
 use Rattle.questions.proofs.Zeros.{zero-word, zero-words}
@@ -143,16 +143,16 @@ module _ (c : Counts) (b : List ℕ) where
   unfolding question9
   question9-by d = d ∙ every-same _ _ _ (λ k l. rw (add-assoc (c .widths + c .sizes) (c .stages) k))
 
-  pub question10-by : {p q r s t : Bool} → ((i : ℕ) → byte b i ≤ 255) → p ≡ every (c .segments) (byteWithin b (c .widths + c .sizes + c .stages) 3 0 1)
-      → q ≡ every (c .segments) (wordWithin b (c .widths + c .sizes + c .stages) 4 1 1000)
-      → r ≡ every (c .segments) (wordWithin b (c .widths + c .sizes + c .stages) 8 0 100000)
-      → s ≡ every (c .segments) (sinkOrNone b (c .widths + c .sizes + c .stages))
-      → t ≡ every (c .segments) (widthsWithin b c (c .widths + c .sizes + c .stages))
-      → p && (q && (r && (s && t))) ≡ question10 c b
+  pub question10-by : {p : Bool} → ((i : ℕ) → byte b i ≤ 255) → p ≡ every (c .segments) (segmentFits b c (c .widths + c .sizes + c .stages)) → p ≡ question10 c b
   unfolding question10 sinkOrZero
-  question10-by small d e f g h =
-      two _ _ _ d (two _ _ _ e (two _ _ _ f (two _ _ _ g h)))
-      ∙ every-same _ _ _ (λ i l. rw (add-assoc (c .widths + c .sizes) (c .stages) i, weight-within (segmentAt c i + 12)))
+  question10-by small d =
+      d
+      ∙ every-same _ _ _
+      (λ i l. rw (add-assoc (c .widths + c .sizes) (c .stages) i, weight-within (segmentAt c i + 12), leb·zero (segmentSink c b i), leb·zero (sinkCapacitance c b i))
+      (regrouped (leb (segmentSink c b i) 1) (inRange 1 1000 (segmentLength c b i)) (leb (sinkCapacitance c b i) 100000) _))
     where
       weight-within : (i : ℕ) → inRange 0 255 (byte b i) ≡ true
       weight-within i = rw (leb·zero (byte b i), le-leb (byte b i) 255 (small i))
+
+      regrouped : (s t u v : Bool) → s && (t && u) && v ≡ s && (t && (u && v))
+      regrouped s t u v = rw (and-assoc, and-assoc)

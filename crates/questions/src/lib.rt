@@ -174,13 +174,7 @@ fn question10(job: &[u8], counts: Counts) -> bool
     ensures { λ r. ⌜ r ≡ question10 counts (now (job .entry)) ⌝ }
 {
     let start = counts.widths + counts.sizes + counts.stages;
-    let count = counts.segments;
-    let sinks = runs::bytes_within(job, start, count, 3, 0, 1);
-    let lengths = runs::words_within(job, start, count, 4, 1, 1000);
-    let capacitances = runs::words_within(job, start, count, 8, 0, 100000);
-    let none = runs::sinks_or_none(job, start, count);
-    let ranges = runs::widths_within(job, counts, start, count);
-    sinks & (lengths & (capacitances & (none & ranges)))
+    runs::segments_fit(job, counts, start, counts.segments)
 }
 
 // Question 11: has every segment without branches a sink?

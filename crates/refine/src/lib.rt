@@ -28,7 +28,7 @@ pub fn settle(
     requires { ⌜ SettleInLimits counts weight (upstream .0) place (driven .0) ⌝ }
     ensures { λ r. ⌜ Settled (netBy counts (now (job .entry))) weight (upstream .0) place (driven .0) r ⌝ }
 {
-    let rows = place::rows_at(job, counts, place);
+    let rows = job::first_row(job, counts, place);
     let top = job::index(job::highest(job, counts, place));
     let mut lowest = job::index(job::lowest(job, counts, place));
     let mut highest = lowest;

@@ -53,17 +53,18 @@ module _ (b : List ℕ) where
   abbrev pub rangeWithin : ℕ → ℕ → ℕ → ℕ → Bool
   rangeWithin start at n k = leb (byteOf start at k) (byteOf start (at + 1) k) && ltb (byteOf start (at + 1) k) n
 
-  -- Is a segment's lowest width at most its highest, and that one of the table of its layer?
-  abbrev pub widthsWithin : Counts → ℕ → ℕ → Bool
-  widthsWithin c start k = leb (byteOf start 13 k) (byteOf start 14 k) && ltb (byteOf start 14 k) (widthsOf c (byteOf start 15 k))
-
   -- Is a segment's parent byte at most its own number?
   abbrev pub parentInOrder : ℕ → ℕ → Bool
   parentInOrder start k = leb (byteOf start 2 k) k
 
-  -- Has a segment a sink, or neither sink capacitance nor weight?
-  abbrev pub sinkOrNone : ℕ → ℕ → Bool
-  sinkOrNone start k = not (eqb (byteOf start 3 k) 0) || (eqb (wordOf start 8 k) 0 && eqb (byteOf start 12 k) 0)
+  -- Are the fields of a segment in range, capacitance and weight 0 where there is no sink, and lowest ≤ highest < count of widths of its layer?
+  abbrev pub segmentFits : Counts → ℕ → ℕ → Bool
+  segmentFits c start k =
+      let sink : ℕ = byteOf start 3 k in
+      let capacitance : ℕ = wordOf start 8 k in
+      leb sink 1 && (leb 1 (wordOf start 4 k) && leb (wordOf start 4 k) 1000 && leb capacitance 100000)
+      && ((not (eqb sink 0) || (eqb capacitance 0 && eqb (byteOf start 12 k) 0))
+      && (leb (byteOf start 13 k) (byteOf start 14 k) && ltb (byteOf start 14 k) (widthsOf c (byteOf start 15 k))))
 
   -- Has a segment a sink, or, by the first segment at each node, one of n segments at its far end?
   abbrev pub sinkOrBranch : List ℕ → ℕ → ℕ → ℕ → Bool

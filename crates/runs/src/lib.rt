@@ -6,7 +6,7 @@ ghost use Prim.Native.Nat.{_+_, _*_, _-_, _<_, _≤_};
 ghost use lib.ListN.{length};
 ghost use Rattle.lattice.specs.Lists.{every};
 ghost use Rattle.runs.specs.Kinds.{Kinds, UpTo, Ends};
-ghost use Rattle.runs.specs.Records.{byteOf, wordOf, byteInOrder, numberInOrder, zeroFrom, zeroBytes, byteWithin, wordWithin, wordBelow, rangeWithin, widthsWithin, parentInOrder, sinkOrNone, sinkOrBranch, layer0In, countsTo, HasRun};
+ghost use Rattle.runs.specs.Records.{byteOf, wordOf, byteInOrder, numberInOrder, zeroFrom, zeroBytes, byteWithin, wordWithin, wordBelow, rangeWithin, segmentFits, parentInOrder, sinkOrBranch, layer0In, countsTo, HasRun};
 
 // The byte at `at` of the record k after `start`.
 pub fn byte_of(job: &[u8], start: usize, at: usize, k: usize) -> usize
@@ -162,24 +162,6 @@ pub fn ranges_within(job: &[u8], start: usize, count: usize, at: usize, n: usize
     true
 }
 
-// Is each segment's lowest width at most its highest, and that one of the table of its layer?
-pub fn widths_within(job: &[u8], counts: Counts, start: usize, count: usize) -> bool
-    requires { ⌜ HasRun (now job) start count × (counts .layer0 ≤ counts .widths) ⌝ }
-    ensures { λ r. ⌜ r ≡ every count (widthsWithin (now (job .entry)) counts start) ⌝ }
-{
-    for k in 0..count {
-        let lowest = byte_of(job, start, 13, k);
-        let highest = byte_of(job, start, 14, k);
-        let layer = byte_of(job, start, 15, k);
-        let widths = job::widths_of(counts, layer);
-        let passed = (lowest <= highest) & (highest < widths);
-        if !passed {
-            return false;
-        }
-    }
-    true
-}
-
 // Is each segment's parent byte at most its own number?
 pub fn parents_in_order(job: &[u8], start: usize, count: usize) -> bool
     requires { ⌜ HasRun (now job) start count ⌝ }
@@ -195,16 +177,25 @@ pub fn parents_in_order(job: &[u8], start: usize, count: usize) -> bool
     true
 }
 
-// Has each segment a sink, or neither sink capacitance nor weight?
-pub fn sinks_or_none(job: &[u8], start: usize, count: usize) -> bool
-    requires { ⌜ HasRun (now job) start count ⌝ }
-    ensures { λ r. ⌜ r ≡ every count (sinkOrNone (now (job .entry)) start) ⌝ }
+// Are the fields of each segment in range, capacitance and weight 0 where there is no sink, and lowest ≤ highest < count of widths of its layer?
+// Each segment is read once.
+pub fn segments_fit(job: &[u8], counts: Counts, start: usize, count: usize) -> bool
+    requires { ⌜ HasRun (now job) start count × (counts .layer0 ≤ counts .widths) ⌝ }
+    ensures { λ r. ⌜ r ≡ every count (segmentFits (now (job .entry)) counts start) ⌝ }
 {
     for k in 0..count {
         let sink = byte_of(job, start, 3, k);
+        let length = word_of(job, start, 4, k);
         let capacitance = word_of(job, start, 8, k);
         let weight = byte_of(job, start, 12, k);
-        let passed = (sink != 0) | ((capacitance == 0) & (weight == 0));
+        let lowest = byte_of(job, start, 13, k);
+        let highest = byte_of(job, start, 14, k);
+        let layer = byte_of(job, start, 15, k);
+        let widths = job::widths_of(counts, layer);
+        let within = (sink <= 1) & ((1 <= length) & (length <= 1000) & (capacitance <= 100000));
+        let none = (sink != 0) | ((capacitance == 0) & (weight == 0));
+        let range = (lowest <= highest) & (highest < widths);
+        let passed = within & (none & range);
         if !passed {
             return false;
         }

@@ -141,7 +141,7 @@ fn take_from(
         (now (x .exit)) (now (gathered .entry)) (found (r .0) (now (lean .exit)) (now (wide .exit))) ⌝ }
 {
     let p = left - 1;
-    let rows = place::rows_at(job, counts, p);
+    let rows = job::first_row(job, counts, p);
     let weight = weights[p];
     let before = Resistance(upstream[p]);
     let load = quantity::add_capacitance(Capacitance(driven[p]), Capacitance(gathered[p + 1]));
@@ -190,10 +190,10 @@ fn search(
         (now (x .exit)) (now (gathered .exit)) (found (r .0) (now (lean .exit)) (now (wide .exit))) ⌝ }
 {
     let p = left - 1;
-    let rows = place::rows_at(job, counts, p);
+    let rows = job::first_row(job, counts, p);
     let rest = skips[p];
     let next = rest - 1;
-    let next_rows = place::rows_at(job, counts, next);
+    let next_rows = job::first_row(job, counts, next);
     let further = skips[next];
     let weight = weights[p];
     let before = Resistance(upstream[p]);

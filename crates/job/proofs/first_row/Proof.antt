@@ -1,43 +1,31 @@
--- `job::first_row` meets its contract: the table of layer 0 starts at the first row, the other behind it.
-use mathlib.Core.Path.{sym}
+-- `job::first_row` meets its contract: a layer is 0 or 1, so layer times the widths of layer 0 is where its table starts.
+use mathlib.Core.Path.{_∙_, ap}
+use Prim.Native.Nat.{ℕ, _*_, _≤_}
+use native.Mathlib.Nat.{mul-le-mul-right}
+use native.Mathlib.Omega.{arith}
 use borrow.Author.Needs.{needs}
-use Rattle.net.proofs.Records.{layer-0, layer-1}
+use Rattle.net.proofs.Records.{layer-times}
 use Rattle.job.proofs.first_row.Statement.{statement}
 use Rattle.job.proofs.first_row.Tie as tie
 
-add-layer : tie.Need-add-layer
-add-layer c = search needs
+place-byte-requires : tie.Need-place-byte-requires
+place-byte-requires c κs = search needs
 
-add-layer-2 : tie.Need-add-layer-2
-add-layer-2 c = search needs
+index-requires : tie.Need-index-requires
+index-requires c κs = search needs
 
-add-layer-3 : tie.Need-add-layer-3
-add-layer-3 c = search needs
-
-mul-layer : tie.Need-mul-layer
-mul-layer c = search needs
-
-add-layer-4 : tie.Need-add-layer-4
-add-layer-4 c = search needs
-
-shared-slice-read-layer : tie.Need-shared-slice-read-layer
-shared-slice-read-layer c = search needs
+mul-result : tie.Need-mul-result
+mul-result c =
+    let b = c .before .before .before .before in
+    let e = c .before .index .ensures .0 ∙ c .before .before .place-byte .ensures in
+    let l : c .before .index .result ≤ 1 = rw e (b .pre .1 .1) in
+    omega (arith, b .pre .0 .all, b .pre .0 .layers, mul-le-mul-right (b .args .counts .layer0) l)
 
 returns : tie.Need-returns
-returns c = rw (c .if1 .taken) (sym (layer-0 _ .1))
-
-returns-2 : tie.Need-returns-2
-returns-2 c = sym (layer-1 _ _ (c .if1 .left) .1)
+returns c =
+    let b = c .before .before .before .before in
+    let e = c .before .index .ensures .0 ∙ c .before .before .place-byte .ensures in
+    ap (λ (l : ℕ). l * b .args .counts .layer0) e ∙ layer-times (b .args .counts) _ (b .pre .1 .1)
 
 pub first-row-spec : {M : Type 1} → statement M
-first-row-spec =
-    tie.close
-    (tie.spec
-    add-layer
-    add-layer-2
-    add-layer-3
-    mul-layer
-    add-layer-4
-    shared-slice-read-layer
-    returns
-    returns-2)
+first-row-spec = tie.close (tie.spec place-byte-requires index-requires mul-result returns)

@@ -3,8 +3,10 @@ use borrow.Author.Needs.{needs}
 use Rattle.place.proofs.step_at.Statement.{statement}
 use Rattle.place.proofs.step_at.Tie as tie
 
-rows-at-requires : tie.Need-rows-at-requires
-rows-at-requires c κs = search needs
+first-row-requires : tie.Need-first-row-requires
+first-row-requires c κs =
+    let b = c .before in
+    (b .pre .0 .held, (b .pre .1 .0, b .pre .0 .layers (b .args .p) (b .pre .1 .0)))
 
 step-requires : tie.Need-step-requires
 step-requires c κs = search needs
@@ -13,4 +15,4 @@ returns : tie.Need-returns
 returns c = c .step .ensures
 
 pub step-at-spec : {M : Type 1} → statement M
-step-at-spec = tie.close (tie.spec rows-at-requires step-requires returns)
+step-at-spec = tie.close (tie.spec first-row-requires step-requires returns)

@@ -18,8 +18,10 @@ Inv-loop job counts weight upstream place driven rows top lowest₀ highest₀ l
 abbrev μ-loop : tie.MeasureT-loop
 μ-loop job counts weight upstream place driven rows top lowest₀ highest₀ least₀ k₀ k-end lowest highest least k = k-end - k
 
-rows-at-requires : tie.Need-rows-at-requires Inv-loop μ-loop
-rows-at-requires c κs = search needs
+first-row-requires : tie.Need-first-row-requires Inv-loop μ-loop
+first-row-requires c κs =
+    let b = c .before in
+    (b .pre .0 .held, (b .pre .1 .0, b .pre .0 .layers (b .args .place) (b .pre .1 .0)))
 
 highest-requires : tie.Need-highest-requires Inv-loop μ-loop
 highest-requires c κs = search needs
@@ -36,7 +38,7 @@ index-requires-2 c κs = search needs
 step-to-requires : tie.Need-step-to-requires Inv-loop μ-loop
 step-to-requires c κs =
     let b = c .before .before .before .before .before .before in
-    (b .pre .0, (c .before .before .before .before .rows-at .ensures, (b .pre .1 .0, omega (arith, c .index2 .ensures, c .before .lowest .ensures, b .pre .0 .ranges (b .args .place) (b .pre .1 .0)), b .pre .1 .1, b .pre .1 .2, b .pre .1 .3)))
+    (b .pre .0, (c .before .before .before .before .first-row .ensures, (b .pre .1 .0, omega (arith, c .index2 .ensures, c .before .lowest .ensures, b .pre .0 .ranges (b .args .place) (b .pre .1 .0)), b .pre .1 .1, b .pre .1 .2, b .pre .1 .3)))
 
 add-k : tie.Need-add-k Inv-loop μ-loop
 add-k c = search needs
@@ -57,7 +59,7 @@ loop-holds c =
 step-to-requires-2 : tie.Need-step-to-requires-2 Inv-loop μ-loop
 step-to-requires-2 c κs =
     let b = c .before .before .before .before .before .before .before .before .before .before in
-    (b .pre .0, (c .before .before .before .before .before .before .before .before .rows-at .ensures, (b .pre .1 .0, omega (arith, c .loop-test .taken, c .before .before .before .before .before .before .index .ensures, c .before .before .before .before .before .before .before .highest .ensures), b .pre .1 .1, b .pre .1 .2, b .pre .1 .3)))
+    (b .pre .0, (c .before .before .before .before .before .before .before .before .first-row .ensures, (b .pre .1 .0, omega (arith, c .loop-test .taken, c .before .before .before .before .before .before .index .ensures, c .before .before .before .before .before .before .before .highest .ensures), b .pre .1 .1, b .pre .1 .2, b .pre .1 .3)))
 
 add-k-2 : tie.Need-add-k-2 Inv-loop μ-loop
 add-k-2 c = omega (arith, c .before .before .before .before .before .loop-test .taken, c .before .before .before .before .before .before .before .before .before .before .before .index .ensures)
@@ -93,7 +95,7 @@ settle-spec =
     (tie.spec
     Inv-loop
     μ-loop
-    rows-at-requires
+    first-row-requires
     highest-requires
     index-requires
     lowest-requires

@@ -3,6 +3,7 @@ use Rattle.net.proofs.Questions.{allowed-long}
 use Rattle.search.proofs.Calls.{few, load-most, weight-most, resistance-most, node-low, others-small, rest-low, rest-free, small, begin, top-high, all-fit, passed-by, passed-to, high, shown-small, fits, ready, done, ended}
 use Rattle.search.proofs.Turns.{Turning}
 use Rattle.envelope.specs.Kept.{found}
+use Rattle.net.specs.Job.{placesBy}
 use Rattle.net.specs.Net.{netBy}
 use Rattle.lattice.specs.Lists.{at}
 use lib.Seq.{set-set, set-getD}
@@ -16,7 +17,7 @@ use borrow.Fn.PlainCycle.{Measures, is, falls, and}
 use Rattle.search.proofs.search.Reads as search′
 use Rattle.search.proofs.search.Kinds as search-kinds
 use Rattle.search.proofs.+search.Lts-search as search-lts
-use Rattle.place.proofs.rows_at.Reads as rows-at-reads
+use Rattle.job.proofs.first_row.Reads as first-row-reads
 use Rattle.place.proofs.step.Reads as step-reads
 use Rattle.quantity.proofs.add_capacitance.Reads as add-capacitance-reads
 use Rattle.quantity.proofs.add_delay.Reads as add-delay-reads
@@ -37,8 +38,8 @@ search-below t = and 12 search-kinds.ps (falls 12 search-kinds.ps _<_ μ-search 
 -- what each callee asks and tells
 abbrev search-claims : ℕ → search-lts.Claims
 search-claims t = (
-  rows-at-reads.Asked,
-  rows-at-reads.Learnt,
+  first-row-reads.Asked,
+  first-row-reads.Learnt,
   add-capacitance-reads.Asked,
   add-capacitance-reads.Learnt,
   step-reads.Asked,
@@ -65,10 +66,11 @@ search-sub-p t c =
     let b = c .before .before .before .before .before .before in
     omega (arith, b .pre .1 .1 .1 .0)
 
-search-rows-at-requires : (t : ℕ) → search-lts.Need-rows-at-requires (search-claims t) (search-at t) search′.Post search-Inv-loop search-μ-loop
-search-rows-at-requires t c κs =
+search-first-row-requires : (t : ℕ) → search-lts.Need-first-row-requires (search-claims t) (search-at t) search′.Post search-Inv-loop search-μ-loop
+search-first-row-requires t c κs =
     let b = c .before .before .before .before .before .before in
-    (b .pre .1 .0 .checked, few (b .pre .1 .0) (b .pre .1 .1 .0) (b .args .least .0) (b .pre .1 .1 .1 .0) (b .pre .1 .1 .1 .1))
+    let h = few (b .pre .1 .0) (b .pre .1 .1 .0) (b .args .least .0) (b .pre .1 .1 .1 .0) (b .pre .1 .1 .1 .1) in
+    (b .pre .1 .0 .checked .held, (h, b .pre .1 .0 .checked .layers (b .args .left - 1) h))
 
 search-mul-rest : (t : ℕ) → search-lts.Need-mul-rest (search-claims t) (search-at t) search′.Post search-Inv-loop search-μ-loop
 search-mul-rest t c =
@@ -85,10 +87,11 @@ search-sub-next t c =
     let b = c .before .before .before .before .before .before .before .before in
     omega (arith, b .pre .1 .1 .1 .2)
 
-search-rows-at-requires-2 : (t : ℕ) → search-lts.Need-rows-at-requires-2 (search-claims t) (search-at t) search′.Post search-Inv-loop search-μ-loop
-search-rows-at-requires-2 t c κs =
+search-first-row-requires-2 : (t : ℕ) → search-lts.Need-first-row-requires-2 (search-claims t) (search-at t) search′.Post search-Inv-loop search-μ-loop
+search-first-row-requires-2 t c κs =
     let b = c .before .before .before .before .before .before .before .before in
-    (b .pre .1 .0 .checked, omega (arith, rest-low (b .pre .1 .0) (b .pre .1 .1 .0) (b .args .least .0) (b .pre .1 .1 .1 .0) (b .pre .1 .1 .1 .1), few (b .pre .1 .0) (b .pre .1 .1 .0) (b .args .least .0) (b .pre .1 .1 .1 .0) (b .pre .1 .1 .1 .1)))
+    let h : at (b .args .skips .now) (b .args .left - 1) - 1 < placesBy (b .args .counts) = omega (arith, rest-low (b .pre .1 .0) (b .pre .1 .1 .0) (b .args .least .0) (b .pre .1 .1 .1 .0) (b .pre .1 .1 .1 .1), few (b .pre .1 .0) (b .pre .1 .1 .0) (b .args .least .0) (b .pre .1 .1 .1 .0) (b .pre .1 .1 .1 .1)) in
+    (b .pre .1 .0 .checked .held, (h, b .pre .1 .0 .checked .layers _ h))
 
 search-mul-further : (t : ℕ) → search-lts.Need-mul-further (search-claims t) (search-at t) search′.Post search-Inv-loop search-μ-loop
 search-mul-further t c =
@@ -189,7 +192,7 @@ search-step-requires : (t : ℕ) → search-lts.Need-step-requires (search-claim
 search-step-requires t c κs =
     let b = c .before .before .before .before .before .before .before .before .before .before .before .before .before .before .before .before .before .before .before .before .before in
     let l = c .before .loop in
-    (b .pre .1 .0 .checked, (c .before .before .before .before .before .before .before .before .before .before .before .before .before .before .rows-at .ensures, (few (b .pre .1 .0) (b .pre .1 .1 .0) (b .args .least .0) (b .pre .1 .1 .1 .0) (b .pre .1 .1 .1 .1), high (b .pre .1 .0) (b .pre .1 .1 .0) (b .args .least .0) (b .pre .1 .1 .1 .0) (b .pre .1 .1 .1 .1) (l .inv .0) (c .loop-test .taken), weight-most (b .pre .1 .0) (b .pre .1 .1 .0) (b .args .least .0) (b .pre .1 .1 .1 .0) (b .pre .1 .1 .1 .1), resistance-most (b .pre .1 .0) (b .pre .1 .1 .0) (b .args .least .0) (b .pre .1 .1 .1 .0) (b .pre .1 .1 .1 .1), load-most (b .pre .1 .0) (b .pre .1 .1 .0) (b .args .least .0) (b .pre .1 .1 .1 .0) (b .pre .1 .1 .1 .1) _ (c .before .before .before .before .before .before .add-capacitance .ensures .0))))
+    (b .pre .1 .0 .checked, (c .before .before .before .before .before .before .before .before .before .before .before .before .before .before .first-row .ensures, (few (b .pre .1 .0) (b .pre .1 .1 .0) (b .args .least .0) (b .pre .1 .1 .1 .0) (b .pre .1 .1 .1 .1), high (b .pre .1 .0) (b .pre .1 .1 .0) (b .args .least .0) (b .pre .1 .1 .1 .0) (b .pre .1 .1 .1 .1) (l .inv .0) (c .loop-test .taken), weight-most (b .pre .1 .0) (b .pre .1 .1 .0) (b .args .least .0) (b .pre .1 .1 .1 .0) (b .pre .1 .1 .1 .1), resistance-most (b .pre .1 .0) (b .pre .1 .1 .0) (b .args .least .0) (b .pre .1 .1 .1 .0) (b .pre .1 .1 .1 .1), load-most (b .pre .1 .0) (b .pre .1 .1 .0) (b .args .least .0) (b .pre .1 .1 .1 .0) (b .pre .1 .1 .1 .1) _ (c .before .before .before .before .before .before .add-capacitance .ensures .0))))
 
 search-add-delay-requires : (t : ℕ) → search-lts.Need-add-delay-requires (search-claims t) (search-at t) search′.Post search-Inv-loop search-μ-loop
 search-add-delay-requires t c κs =
@@ -295,7 +298,7 @@ search-pass-over-requires t c κs =
     let s = ready (b .pre .1 .0) (b .pre .1 .1 .0) (b .args .least .0) (b .pre .1 .1 .1 .0) (b .pre .1 .1 .1 .1) (l .inv .0) (c .before .before .before .before .before .before .before .before .before .before .before .before .loop-test .taken) _ (c .before .before .before .before .before .before .before .before .before .before .before .before .before .before .before .before .before .before .add-capacitance .ensures .0) (c .before .before .before .before .before .before .before .before .before .before .before .step .result) (c .before .before .before .before .before .before .before .before .before .before .before .step .ensures) (c .before .before .before .before .before .before .before .before .before .before .add-delay .result .0) _ (l .gathered) (c .before .before .before .before .before .before .before .before .before .before .add-delay .ensures .0) (c .before .before .before .before .before .before .before .before .add-capacitance2 .ensures .0) (l .inv .1) in (
       b .pre .1 .0 .checked,
       (
-        c .before .before .before .before .before .before .before .before .before .before .before .before .before .before .before .before .before .before .before .before .before .before .before .before .rows-at2 .ensures,
+        c .before .before .before .before .before .before .before .before .before .before .before .before .before .before .before .before .before .before .before .before .before .before .before .before .first-row2 .ensures,
         (
           (few (b .pre .1 .0) s (l .best .0) (b .pre .1 .1 .1 .2) (rest-free (b .pre .1 .0) (b .pre .1 .1 .0) (b .args .least .0) (b .pre .1 .1 .1 .0) (b .pre .1 .1 .1 .1) n), top-high (b .pre .1 .0) s (l .best .0) (b .pre .1 .1 .1 .2) (rest-free (b .pre .1 .0) (b .pre .1 .1 .0) (b .args .least .0) (b .pre .1 .1 .1 .0) (b .pre .1 .1 .1 .1) n), weight-most (b .pre .1 .0) s (l .best .0) (b .pre .1 .1 .1 .2) (rest-free (b .pre .1 .0) (b .pre .1 .1 .0) (b .args .least .0) (b .pre .1 .1 .1 .0) (b .pre .1 .1 .1 .1) n), resistance-most (b .pre .1 .0) s (l .best .0) (b .pre .1 .1 .1 .2) (rest-free (b .pre .1 .0) (b .pre .1 .1 .0) (b .args .least .0) (b .pre .1 .1 .1 .0) (b .pre .1 .1 .1 .1) n), load-most (b .pre .1 .0) s (l .best .0) (b .pre .1 .1 .1 .2) (rest-free (b .pre .1 .0) (b .pre .1 .1 .0) (b .args .least .0) (b .pre .1 .1 .1 .0) (b .pre .1 .1 .1 .1) n) _ (c .before .before .add-capacitance3 .ensures .0)),
           ((b .pre .1 .0 .inOrder _ (few (b .pre .1 .0) s (l .best .0) (b .pre .1 .1 .1 .2) (rest-free (b .pre .1 .0) (b .pre .1 .1 .0) (b .args .least .0) (b .pre .1 .1 .1 .0) (b .pre .1 .1 .1 .1) n)), small (b .pre .1 .0) s (l .best .0) (b .pre .1 .1 .1 .2) (rest-free (b .pre .1 .0) (b .pre .1 .1 .0) (b .args .least .0) (b .pre .1 .1 .1 .0) (b .pre .1 .1 .1 .1) n)), all-fit (b .pre .1 .0) s (l .best .0) (b .pre .1 .1 .1 .2) (rest-free (b .pre .1 .0) (b .pre .1 .1 .0) (b .args .least .0) (b .pre .1 .1 .1 .0) (b .pre .1 .1 .1 .1) n) _ (c .before .before .add-capacitance3 .ensures .0)),
@@ -402,11 +405,11 @@ pub +search-spec : {M : Type 1} → statement M
     search-Inv-loop
     search-μ-loop
     (search-sub-p t)
-    (search-rows-at-requires t)
+    (search-first-row-requires t)
     (search-mul-rest t)
     (search-element-copy-out-rest t)
     (search-sub-next t)
-    (search-rows-at-requires-2 t)
+    (search-first-row-requires-2 t)
     (search-mul-further t)
     (search-element-copy-out-further t)
     (search-mul-weight t)

@@ -29,10 +29,11 @@ sub-p c =
     let b = c .before .before .before .before .before .before in
     omega (arith, b .pre .1 .1 .0 .0)
 
-rows-at-requires : tie.Need-rows-at-requires Inv-loop μ-loop
-rows-at-requires c κs =
+first-row-requires : tie.Need-first-row-requires Inv-loop μ-loop
+first-row-requires c κs =
     let b = c .before .before .before .before .before .before in
-    (b .pre .0 .checked, few (b .pre .0) (b .pre .1 .0) (b .args .least .0) (b .pre .1 .1 .0 .0) (b .pre .1 .1 .0 .1))
+    let h = few (b .pre .0) (b .pre .1 .0) (b .args .least .0) (b .pre .1 .1 .0 .0) (b .pre .1 .1 .0 .1) in
+    (b .pre .0 .checked .held, (h, b .pre .0 .checked .layers (b .args .left - 1) h))
 
 mul-weight : tie.Need-mul-weight Inv-loop μ-loop
 mul-weight c =
@@ -98,7 +99,7 @@ step-requires : tie.Need-step-requires Inv-loop μ-loop
 step-requires c κs =
     let b = c .before .before .before .before .before .before .before .before .before .before .before .before .before .before .before in
     let l = c .before .loop in
-    (b .pre .0 .checked, (c .before .before .before .before .before .before .before .before .rows-at .ensures, (few (b .pre .0) (b .pre .1 .0) (b .args .least .0) (b .pre .1 .1 .0 .0) (b .pre .1 .1 .0 .1), high (b .pre .0) (b .pre .1 .0) (b .args .least .0) (b .pre .1 .1 .0 .0) (b .pre .1 .1 .0 .1) (l .inv) (c .loop-test .taken), weight-most (b .pre .0) (b .pre .1 .0) (b .args .least .0) (b .pre .1 .1 .0 .0) (b .pre .1 .1 .0 .1), resistance-most (b .pre .0) (b .pre .1 .0) (b .args .least .0) (b .pre .1 .1 .0 .0) (b .pre .1 .1 .0 .1), load-most (b .pre .0) (b .pre .1 .0) (b .args .least .0) (b .pre .1 .1 .0 .0) (b .pre .1 .1 .0 .1) _ (c .before .before .before .add-capacitance .ensures .0))))
+    (b .pre .0 .checked, (c .before .before .before .before .before .before .before .before .first-row .ensures, (few (b .pre .0) (b .pre .1 .0) (b .args .least .0) (b .pre .1 .1 .0 .0) (b .pre .1 .1 .0 .1), high (b .pre .0) (b .pre .1 .0) (b .args .least .0) (b .pre .1 .1 .0 .0) (b .pre .1 .1 .0 .1) (l .inv) (c .loop-test .taken), weight-most (b .pre .0) (b .pre .1 .0) (b .args .least .0) (b .pre .1 .1 .0 .0) (b .pre .1 .1 .0 .1), resistance-most (b .pre .0) (b .pre .1 .0) (b .args .least .0) (b .pre .1 .1 .0 .0) (b .pre .1 .1 .0 .1), load-most (b .pre .0) (b .pre .1 .0) (b .args .least .0) (b .pre .1 .1 .0 .0) (b .pre .1 .1 .0 .1) _ (c .before .before .before .add-capacitance .ensures .0))))
 
 add-delay-requires : tie.Need-add-delay-requires Inv-loop μ-loop
 add-delay-requires c κs =
@@ -175,7 +176,7 @@ take-from-spec =
     Inv-loop
     μ-loop
     sub-p
-    rows-at-requires
+    first-row-requires
     mul-weight
     element-copy-out-weight
     mul-t29
