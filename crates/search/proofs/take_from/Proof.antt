@@ -18,22 +18,26 @@ use Rattle.quantity.proofs.add_capacitance.Reads as add-capacitance-reads
 use Rattle.quantity.proofs.add_delay.Reads as add-delay-reads
 
 abbrev Inv-loop : tie.InvT-loop
-Inv-loop job counts weights upstream driven ups skips lower upper left start added x₀ gathered lean₀ wide₀ p rows weight before load top k₀ best₀ x lean wide k best =
+Inv-loop job counts weights upstream driven ups skips tables lower upper left start added x₀ gathered lean₀ wide₀ p rows weight before load top k₀ best₀ x lean wide k best =
     Turning (netBy counts job) lower upper p x₀ (found (best₀ .0) lean₀ wide₀) x k (found (best .0) lean wide)
 
 abbrev μ-loop : tie.MeasureT-loop
-μ-loop job counts weights upstream driven ups skips lower upper left start added x₀ gathered lean₀ wide₀ p rows weight before load top k₀ best₀ x lean wide k best = suc top - k
+μ-loop job counts weights upstream driven ups skips tables lower upper left start added x₀ gathered lean₀ wide₀ p rows weight before load top k₀ best₀ x lean wide k best = suc top - k
 
 sub-p : tie.Need-sub-p Inv-loop μ-loop
 sub-p c =
     let b = c .before .before .before .before .before .before in
     omega (arith, b .pre .1 .1 .0 .0)
 
-first-row-requires : tie.Need-first-row-requires Inv-loop μ-loop
-first-row-requires c κs =
+mul-rows : tie.Need-mul-rows Inv-loop μ-loop
+mul-rows c =
     let b = c .before .before .before .before .before .before in
-    let h = few (b .pre .0) (b .pre .1 .0) (b .args .least .0) (b .pre .1 .1 .0 .0) (b .pre .1 .1 .0 .1) in
-    (b .pre .0 .checked .held, (h, b .pre .0 .checked .layers (b .args .left - 1) h))
+    omega (arith, b .pre .1 .0 .few, b .pre .1 .1 .0 .0, b .pre .0 .checked .fewStages, b .pre .0 .checked .fewSegments)
+
+element-copy-out-rows : tie.Need-element-copy-out-rows Inv-loop μ-loop
+element-copy-out-rows c =
+    let b = c .before .before .before .before .before .before in
+    omega (arith, b .pre .1 .0 .few, b .pre .1 .1 .0 .0, b .pre .0 .checked .fewStages, b .pre .0 .checked .fewSegments)
 
 mul-weight : tie.Need-mul-weight Inv-loop μ-loop
 mul-weight c =
@@ -45,38 +49,38 @@ element-copy-out-weight c =
     let b = c .before .before .before .before .before .before .before in
     omega (arith, b .pre .1 .0 .few, b .pre .1 .1 .0 .0, b .pre .0 .checked .fewStages, b .pre .0 .checked .fewSegments)
 
-mul-t29 : tie.Need-mul-t29 Inv-loop μ-loop
-mul-t29 c =
+mul-t33 : tie.Need-mul-t33 Inv-loop μ-loop
+mul-t33 c =
     let b = c .before .before .before .before .before .before .before .before in
     omega (arith, b .pre .1 .0 .few, b .pre .1 .1 .0 .0, b .pre .0 .checked .fewStages, b .pre .0 .checked .fewSegments)
 
-element-copy-out-t32 : tie.Need-element-copy-out-t32 Inv-loop μ-loop
-element-copy-out-t32 c =
+element-copy-out-t36 : tie.Need-element-copy-out-t36 Inv-loop μ-loop
+element-copy-out-t36 c =
     let b = c .before .before .before .before .before .before .before .before in
     omega (arith, b .pre .1 .0 .few, b .pre .1 .1 .0 .0, b .pre .0 .checked .fewStages, b .pre .0 .checked .fewSegments)
 
-mul-t29-2 : tie.Need-mul-t29-2 Inv-loop μ-loop
-mul-t29-2 c =
+mul-t30 : tie.Need-mul-t30 Inv-loop μ-loop
+mul-t30 c =
     let b = c .before .before .before .before .before .before .before .before .before in
     omega (arith, b .pre .1 .0 .few, b .pre .1 .1 .0 .0, b .pre .0 .checked .fewStages, b .pre .0 .checked .fewSegments)
 
-element-copy-out-t32-2 : tie.Need-element-copy-out-t32-2 Inv-loop μ-loop
-element-copy-out-t32-2 c =
+element-copy-out-t36-2 : tie.Need-element-copy-out-t36-2 Inv-loop μ-loop
+element-copy-out-t36-2 c =
     let b = c .before .before .before .before .before .before .before .before .before in
     omega (arith, b .pre .1 .0 .few, b .pre .1 .1 .0 .0, b .pre .0 .checked .fewStages, b .pre .0 .checked .fewSegments)
 
-add-t38 : tie.Need-add-t38 Inv-loop μ-loop
-add-t38 c =
+add-t33 : tie.Need-add-t33 Inv-loop μ-loop
+add-t33 c =
     let b = c .before .before .before .before .before .before .before .before .before .before in
     omega (arith, b .pre .1 .0 .few, b .pre .1 .1 .0 .0, b .pre .0 .checked .fewStages, b .pre .0 .checked .fewSegments)
 
-mul-t39 : tie.Need-mul-t39 Inv-loop μ-loop
-mul-t39 c =
+mul-t42 : tie.Need-mul-t42 Inv-loop μ-loop
+mul-t42 c =
     let b = c .before .before .before .before .before .before .before .before .before .before in
     omega (arith, b .pre .1 .0 .few, b .pre .1 .1 .0 .0, b .pre .0 .checked .fewStages, b .pre .0 .checked .fewSegments)
 
-element-copy-out-t42 : tie.Need-element-copy-out-t42 Inv-loop μ-loop
-element-copy-out-t42 c =
+element-copy-out-t45 : tie.Need-element-copy-out-t45 Inv-loop μ-loop
+element-copy-out-t45 c =
     let b = c .before .before .before .before .before .before .before .before .before .before in
     omega (arith, b .pre .1 .0 .few, b .pre .1 .1 .0 .0, b .pre .0 .checked .fewStages, b .pre .0 .checked .fewSegments)
 
@@ -93,13 +97,13 @@ shared-slice-read-top c =
 loop-holds : tie.Need-loop-holds Inv-loop μ-loop
 loop-holds c =
     let b = c .before .before .before .before .before .before .before .before .before .before .before .before .before in
-    passed-to (b .pre .0) (b .pre .1 .0) (b .args .least .0) (b .pre .1 .1 .0 .0) (b .pre .1 .1 .0 .1) (b .pre .1 .1 .0 .2) (b .args .start) (b .pre .1 .1 .1)
+    passed-to (b .pre .0) (b .pre .1 .0) (b .args .least .0) (b .pre .1 .1 .0 .0) (b .pre .1 .1 .0 .1) (b .pre .1 .1 .0 .2) (b .args .start) (b .pre .1 .1 .1 .0)
 
 step-requires : tie.Need-step-requires Inv-loop μ-loop
 step-requires c κs =
     let b = c .before .before .before .before .before .before .before .before .before .before .before .before .before .before .before in
     let l = c .before .loop in
-    (b .pre .0 .checked, (c .before .before .before .before .before .before .before .before .first-row .ensures, (few (b .pre .0) (b .pre .1 .0) (b .args .least .0) (b .pre .1 .1 .0 .0) (b .pre .1 .1 .0 .1), high (b .pre .0) (b .pre .1 .0) (b .args .least .0) (b .pre .1 .1 .0 .0) (b .pre .1 .1 .0 .1) (l .inv) (c .loop-test .taken), weight-most (b .pre .0) (b .pre .1 .0) (b .args .least .0) (b .pre .1 .1 .0 .0) (b .pre .1 .1 .0 .1), resistance-most (b .pre .0) (b .pre .1 .0) (b .args .least .0) (b .pre .1 .1 .0 .0) (b .pre .1 .1 .0 .1), load-most (b .pre .0) (b .pre .1 .0) (b .args .least .0) (b .pre .1 .1 .0 .0) (b .pre .1 .1 .0 .1) _ (c .before .before .before .add-capacitance .ensures .0))))
+    (b .pre .0 .checked, (b .pre .1 .1 .1 .1 .held (b .args .left - 1) (few (b .pre .0) (b .pre .1 .0) (b .args .least .0) (b .pre .1 .1 .0 .0) (b .pre .1 .1 .0 .1)), (few (b .pre .0) (b .pre .1 .0) (b .args .least .0) (b .pre .1 .1 .0 .0) (b .pre .1 .1 .0 .1), high (b .pre .0) (b .pre .1 .0) (b .args .least .0) (b .pre .1 .1 .0 .0) (b .pre .1 .1 .0 .1) (l .inv) (c .loop-test .taken), weight-most (b .pre .0) (b .pre .1 .0) (b .args .least .0) (b .pre .1 .1 .0 .0) (b .pre .1 .1 .0 .1), resistance-most (b .pre .0) (b .pre .1 .0) (b .args .least .0) (b .pre .1 .1 .0 .0) (b .pre .1 .1 .0 .1), load-most (b .pre .0) (b .pre .1 .0) (b .args .least .0) (b .pre .1 .1 .0 .0) (b .pre .1 .1 .0 .1) _ (c .before .before .before .add-capacitance .ensures .0))))
 
 add-delay-requires : tie.Need-add-delay-requires Inv-loop μ-loop
 add-delay-requires c κs =
@@ -176,16 +180,17 @@ take-from-spec =
     Inv-loop
     μ-loop
     sub-p
-    first-row-requires
+    mul-rows
+    element-copy-out-rows
     mul-weight
     element-copy-out-weight
-    mul-t29
-    element-copy-out-t32
-    mul-t29-2
-    element-copy-out-t32-2
-    add-t38
-    mul-t39
-    element-copy-out-t42
+    mul-t33
+    element-copy-out-t36
+    mul-t30
+    element-copy-out-t36-2
+    add-t33
+    mul-t42
+    element-copy-out-t45
     add-capacitance-requires
     shared-slice-read-top
     loop-holds
