@@ -55,19 +55,22 @@ def random_table(rng, count, most_resistance, most_capacitance):
 
 
 def random_segment(rng, number, parent, leaf, widths):
-    """Gives a segment record; a leaf has a sink, others sometimes."""
+    """Gives a segment record of a layer that has widths; a leaf has a sink, others sometimes."""
     sink = leaf or rng.random() < 0.3
     capacitance, weight = (rng.randint(0, 100000), rng.randint(0, 255)) if sink else (0, 0)
+    layer = rng.choice([layer for layer, count in enumerate(widths) if count])
     head = bytes([4, number, parent, sink]) + word(rng.randint(1, 1000)) + word(capacitance)
-    return head + bytes([weight, *random_range(rng, widths), 0])
+    return head + bytes([weight, *random_range(rng, widths[layer]), layer])
 
 
-def random_job(rng):
-    """Gives a job that passes questions 1 to 11."""
-    widths, sizes, stages, segments = (rng.randint(1, most) for most in (8, 16, 4, 64))
+def random_job(rng, most_of_layer_1):
+    """Gives a job that passes questions 1 to 11 and 24."""
+    sizes, stages, segments = (rng.randint(1, most) for most in (16, 4, 64))
+    widths = [rng.randint(1, 8), rng.randint(0, most_of_layer_1)]
     records = [
-        bytes([1, at, 0, 0]) + word(r) + word(c) + word(0)
-        for at, (r, c) in enumerate(random_table(rng, widths, 100, 100))
+        bytes([1, at, layer, 0]) + word(r) + word(c) + word(0)
+        for layer, count in enumerate(widths)
+        for at, (r, c) in enumerate(random_table(rng, count, 100, 100))
     ]
     records += [
         bytes([2, at, 0, 0]) + word(r) + word(g) + word(rng.randint(0, 100000))
@@ -87,10 +90,11 @@ def random_record(rng, counts):
     kind = rng.choice([1, 2, 3, 4, 4, 4, rng.randrange(256)])
     record = bytearray(16)
     record[0] = kind
-    record[1] = counts.get(kind, 0) % 256 if rng.random() < 0.9 else rng.randrange(256)
     for _ in range(rng.randrange(6)):
         record[rng.randrange(2, 16)] = rng.choice([1, 2, rng.randrange(256)])
-    counts[kind] = counts.get(kind, 0) + 1
+    table = (kind, record[2]) if kind == 1 else kind
+    record[1] = counts.get(table, 0) % 256 if rng.random() < 0.9 else rng.randrange(256)
+    counts[table] = counts.get(table, 0) + 1
     return bytes(record)
 
 
@@ -105,7 +109,7 @@ class Examples(unittest.TestCase):
 
     def test_all_there(self):
         names = {path.stem for path in EXAMPLES.glob("*.txt")}
-        self.assertLessEqual({"j1", "j2", "j3", "j4", "j5", "clock"}, names)
+        self.assertLessEqual({"j1", "j2", "j3", "j4", "j5", "clock", "two_layers"}, names)
 
     def test_text_gives_job(self):
         for path in EXAMPLES.glob("*.txt"):
@@ -127,6 +131,13 @@ class Examples(unittest.TestCase):
             03 01 00 01  00 00 00 00  00 00 00 00  00 00 00 00
             04 00 00 01  01 00 00 00  04 00 00 00  01 00 01 00"""
         self.assertEqual((EXAMPLES / "j4.job").read_bytes(), bytes.fromhex(expected))
+
+    def test_two_layers(self):
+        data = (EXAMPLES / "two_layers.job").read_bytes()
+        records = [data[at : at + 16] for at in range(0, len(data), 16)]
+        widths = [(0, 0), (1, 0), (2, 0), (3, 0), (4, 0), (0, 1), (1, 1), (2, 1), (3, 1)]
+        self.assertEqual([(record[1], record[2]) for record in records if record[0] == 1], widths)
+        self.assertEqual([record[15] for record in records if record[0] == 4], [1] * 2 + [0] * 14)
 
 
 class Text(unittest.TestCase):
@@ -178,6 +189,102 @@ class Text(unittest.TestCase):
         self.assertEqual(job.unpack(job.pack(raw)), "stage sizes 0..1\n")
 
 
+WIDTHS = "width resistance 4 capacitance 2\nwidth resistance 2 capacitance 3\n"
+THICK = "width layer 1 resistance 3 capacitance 1\nwidth layer 1 resistance 1 capacitance 5\n"
+
+
+class Layers(unittest.TestCase):
+    """The layer of a width and of a segment."""
+
+    def gives(self, text, expected):
+        """Asks that a text gives these bytes and comes back from them as it was."""
+        self.assertEqual(job.pack(text), bytes.fromhex(expected))
+        self.assertEqual(job.unpack(job.pack(text)), text)
+
+    def test_one_layer(self):
+        self.gives(
+            WIDTHS + "segment parent source length 1 widths 0..1 sink capacitance 4 weight 1\n",
+            """
+            01 00 00 00  04 00 00 00  02 00 00 00  00 00 00 00
+            01 01 00 00  02 00 00 00  03 00 00 00  00 00 00 00
+            04 00 00 01  01 00 00 00  04 00 00 00  01 00 01 00""",
+        )
+
+    def test_two_layers(self):
+        self.gives(
+            WIDTHS
+            + THICK
+            + "segment parent source layer 1 length 1 width 1\n"
+            + "segment parent 0 length 1 widths 0..1 sink capacitance 4 weight 1\n"
+            + "segment parent 0 layer 1 length 1 widths 0..1 sink capacitance 4 weight 1\n",
+            """
+            01 00 00 00  04 00 00 00  02 00 00 00  00 00 00 00
+            01 01 00 00  02 00 00 00  03 00 00 00  00 00 00 00
+            01 00 01 00  03 00 00 00  01 00 00 00  00 00 00 00
+            01 01 01 00  01 00 00 00  05 00 00 00  00 00 00 00
+            04 00 00 00  01 00 00 00  00 00 00 00  00 01 01 01
+            04 01 01 01  01 00 00 00  04 00 00 00  01 00 01 00
+            04 02 01 01  01 00 00 00  04 00 00 00  01 00 01 01""",
+        )
+
+    def test_layer_0_is_read_and_not_written(self):
+        segment = "segment parent source length 1 width 0 sink capacitance 4 weight 1\n"
+        named = WIDTHS.replace("width", "width layer 0") + segment.replace("length", "layer 0 length")
+        self.assertEqual(named.count("layer 0"), 3)
+        self.assertEqual(job.pack(named), job.pack(WIDTHS + segment))
+        self.assertEqual(job.unpack(job.pack(named)), WIDTHS + segment)
+
+    def test_in_any_order(self):
+        self.assertEqual(job.pack("width resistance 3 capacitance 1 layer 1"), job.pack(THICK)[:16])
+        self.assertEqual(
+            job.unpack(job.pack("segment width 0 length 1 parent source layer 1")),
+            "segment parent source layer 1 length 1 width 0\n",
+        )
+
+    def test_above_1(self):
+        self.gives("width layer 2 resistance 4 capacitance 2\n", "01 00 02 00  04 00 00 00  02 00 00 00  00 00 00 00")
+        self.gives("segment parent source layer 2 length 1 width 0\n", "04 00 00 00  01 00 00 00" + " 00" * 7 + "02")
+        self.gives("segment parent source layer 255 length 1 width 0\n", "04 00 00 00  01 00 00 00" + " 00" * 7 + "ff")
+
+    def test_layers_that_fall(self):
+        self.gives(
+            THICK + WIDTHS,
+            """
+            01 00 01 00  03 00 00 00  01 00 00 00  00 00 00 00
+            01 01 01 00  01 00 00 00  05 00 00 00  00 00 00 00
+            01 00 00 00  04 00 00 00  02 00 00 00  00 00 00 00
+            01 01 00 00  02 00 00 00  03 00 00 00  00 00 00 00""",
+        )
+
+    def test_numbers_go_on_where_a_layer_comes_back(self):
+        self.gives(
+            "".join(line + "\n" for pair in zip(WIDTHS.splitlines(), THICK.splitlines()) for line in pair),
+            """
+            01 00 00 00  04 00 00 00  02 00 00 00  00 00 00 00
+            01 00 01 00  03 00 00 00  01 00 00 00  00 00 00 00
+            01 01 00 00  02 00 00 00  03 00 00 00  00 00 00 00
+            01 01 01 00  01 00 00 00  05 00 00 00  00 00 00 00""",
+        )
+
+    def test_widths_numbered_through_both_layers_are_raw(self):
+        line = "raw 01 02 01 00 03 00 00 00 01 00 00 00 00 00 00 00\n"
+        self.assertEqual(job.unpack(job.pack(WIDTHS + line)), WIDTHS + line)
+
+    def test_segments_are_numbered_through_both_layers(self):
+        text = "segment parent source layer 1 length 1 width 0\nsegment parent 0 length 1 width 0\n" * 2
+        self.assertEqual([job.pack(text)[at] for at in (1, 17, 33, 49)], [0, 1, 2, 3])
+        self.assertEqual(job.unpack(job.pack(text)), text)
+
+    def test_raw_counts_by_its_layer(self):
+        raw = "raw 01 07 01 00 00 00 00 00 00 00 00 00 00 00 00 00\n"
+        packed = job.pack(raw + THICK + WIDTHS)
+        self.assertEqual([packed[at] for at in (17, 33, 49, 65)], [1, 2, 0, 1])
+
+    def test_more_than_256_of_a_layer(self):
+        with self.assertRaisesRegex(job.Wrong, "^text:259: the number of this width, 256, does not fit in 1 byte"):
+            job.pack(WIDTHS + "width layer 1 resistance 1 capacitance 1\n" * 257)
+
+
 class Bytes(unittest.TestCase):
     """Whole records come back as they were."""
 
@@ -201,12 +308,30 @@ class Bytes(unittest.TestCase):
     def test_valid_jobs_need_no_raw(self):
         rng = random.Random(3)
         for _ in range(500):
-            self.assertNotIn("raw", self.returns(random_job(rng)))
+            text = self.returns(random_job(rng, 0))
+            self.assertNotIn("raw", text)
+            self.assertNotIn("layer", text)
+
+    def test_valid_jobs_of_two_layers_need_no_raw(self):
+        rng = random.Random(4)
+        for _ in range(500):
+            data = random_job(rng, 8)
+            text = self.returns(data)
+            self.assertNotIn("raw", text)
+            layers = [data[at + (2 if data[at] == 1 else 15)] for at in range(0, len(data), 16) if data[at] in (1, 4)]
+            self.assertEqual(text.count("layer 1"), sum(layers))
+            self.assertEqual(text.count("layer"), sum(layers))
 
     def test_each_byte_of_an_example(self):
         data = (EXAMPLES / "j4.job").read_bytes()
         for at in range(len(data)):
             for value in (0, 1, 2, 3, 4, 5, 128, 255):
+                self.returns(data[:at] + bytes([value]) + data[at + 1 :])
+
+    def test_each_layer_byte_of_an_example(self):
+        data = (EXAMPLES / "two_layers.job").read_bytes()
+        for at in (place for place in range(len(data)) if place % 16 in (1, 2, 15)):
+            for value in (0, 1, 2, 255):
                 self.returns(data[:at] + bytes([value]) + data[at + 1 :])
 
     def test_more_than_256_of_a_kind(self):
@@ -218,6 +343,8 @@ class Bytes(unittest.TestCase):
         for line in (
             "raw 01 01 00 00 04 00 00 00 02 00 00 00 00 00 00 00",  # number 1 first
             "raw 01 00 00 00 04 00 00 00 02 00 00 00 00 00 00 01",  # an unnamed byte
+            "raw 01 00 01 01 04 00 00 00 02 00 00 00 00 00 00 00",  # the unnamed byte beside a layer
+            "raw 01 01 01 00 04 00 00 00 02 00 00 00 00 00 00 00",  # number 1 first in layer 1
             "raw 04 00 00 02 01 00 00 00 04 00 00 00 01 00 01 00",  # sink byte 2
             "raw 04 00 00 00 01 00 00 00 04 00 00 00 00 00 01 00",  # capacitance without sink
             "raw 04 00 00 00 01 00 00 00 00 00 00 00 01 00 01 00",  # weight without sink
@@ -245,11 +372,12 @@ class Errors(unittest.TestCase):
         self.wrong("widht", "unknown word 'widht'; a line starts with width, size, stage, segment or raw")
         self.wrong(
             "width resistence 4",
-            "unknown word 'resistence' after width; its words are resistance, capacitance",
+            "unknown word 'resistence' after width; its words are layer, resistance, capacitance",
         )
         self.wrong(
             "segment parent 0 7",
-            "unknown word '7' after segment; its words are parent, length, width, widths, sink, capacitance, weight",
+            "unknown word '7' after segment; "
+            "its words are parent, layer, length, width, widths, sink, capacitance, weight",
         )
         self.wrong("width resistance 4 resistance 4", "resistance twice")
         self.wrong("width resistance 4 capacitance", "capacitance has no value")
@@ -285,6 +413,20 @@ class Errors(unittest.TestCase):
         )
         long = "9" * 5000
         self.wrong("stage size " + long, f"size {long} does not fit in 1 byte (at most 255)")
+
+    def test_layers(self):
+        self.wrong("width layer 256 resistance 4 capacitance 2", "layer 256 does not fit in 1 byte (at most 255)")
+        self.wrong("segment parent 0 layer 256 length 1 width 0", "layer 256 does not fit in 1 byte (at most 255)")
+        self.wrong("width layer top resistance 4 capacitance 2", "layer wants a whole number, not 'top'")
+        self.wrong("segment parent 0 layer -1 length 1 width 0", "layer wants a whole number, not '-1'")
+        self.wrong("width layer resistance 4 capacitance 2", "layer has no value")
+        self.wrong("width layer 1 layer 1 resistance 4 capacitance 2", "layer twice")
+        self.wrong("width layer 1", "width lacks its resistance")
+        self.wrong(
+            "size layer 1 resistance 4 gate 2 output 1",
+            "unknown word 'layer' after size; its words are resistance, gate, output",
+        )
+        self.wrong("stage layer 1 size 0", "unknown word 'layer' after stage; its words are size, sizes")
 
     def test_ranges(self):
         self.wrong("stage size 0..1", "size takes one index; a range is 'sizes 0..1'")

@@ -2,7 +2,7 @@
 
 use crate::jobs::{self, Shape};
 
-/// What a case calls. The questions alone are a call of `size` with no room for a reply: it asks 1 to 11, and answers 12.
+/// What a case calls. The questions alone are a call of `size` with no room for a reply: it asks 1 to 11 and 24, and answers 12.
 pub enum Work {
     Questions,
     Measure { sizing: Vec<u8> },
@@ -51,6 +51,15 @@ fn size(name: &str, job: Vec<u8>) -> Case {
         name: format!("size, {name}"),
         job,
         work: Work::Size,
+    }
+}
+
+/// A case with every other segment on a layer 1 of the rows given.
+fn on_two_layers(case: Case, rows: &[(u32, u32)]) -> Case {
+    Case {
+        name: format!("{}, two layers", case.name),
+        job: jobs::on_two_layers(&case.job, rows),
+        work: case.work,
     }
 }
 
@@ -111,6 +120,23 @@ pub fn all() -> Vec<Case> {
     cases.push(size(
         "examples/clock.job: room 512",
         include_bytes!("../../examples/clock.job").to_vec(),
+    ));
+    let thick = [
+        questions("1 stage, 64 segments", 1, 64),
+        measure("hardest: 4 stages, 64 segments", 4, 64, Shape::Binary),
+        refine("hardest: 4 stages, 64 segments, at the last stage", 4, 64, 3),
+        refine("hardest: 4 stages, 64 segments, at the last segment", 4, 64, 67),
+        size(
+            "bounds only: 4 stages, 64 segments, room 1",
+            jobs::net(4, 64, Shape::Binary).bytes(),
+        ),
+    ];
+    cases.extend(thick.map(|case| on_two_layers(case, &jobs::THICK)));
+    // Both layers have the same rows here, so the room and the delays are those of the case with one layer.
+    let last = include_bytes!("../jobs/last.job");
+    cases.push(on_two_layers(
+        size("hardest, last segments free, weighted: room 61,740", last.to_vec()),
+        &jobs::rows(last),
     ));
     cases
 }

@@ -44,7 +44,8 @@ struct Wanted {
     steps: usize,
 }
 
-fn widths(random: &mut Random, n: usize) -> Vec<(u32, u32)> {
+/// A table of n widths.
+pub fn widths(random: &mut Random, n: usize) -> Vec<(u32, u32)> {
     let resistances = rising(random, n, 100);
     let capacitances = rising(random, n, 100);
     resistances.into_iter().rev().zip(capacitances).collect()

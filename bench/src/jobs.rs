@@ -96,6 +96,35 @@ pub enum Shape {
 
 const WIDTHS: [(u32, u32); 8] = [(60, 10), (30, 16), (20, 22), (15, 28), (10, 40), (8, 52), (6, 64), (5, 76)];
 
+/// The widths of a thick layer 1: less resistance than in `WIDTHS`, and more capacitance.
+pub const THICK: [(u32, u32); 8] = [(30, 18), (15, 26), (10, 34), (8, 42), (6, 54), (4, 68), (3, 82), (2, 96)];
+
+/// The rows of a job's widths.
+pub fn rows(job: &[u8]) -> Vec<(u32, u32)> {
+    let (records, _) = job.as_chunks::<16>();
+    let word = |r: &[u8; 16], at: usize| u32::from_le_bytes([r[at], r[at + 1], r[at + 2], r[at + 3]]);
+    let widths = records.iter().filter(|r| r[0] == 1);
+    widths.map(|r| (word(r, 4), word(r, 8))).collect()
+}
+
+/// A job that has one layer, with the rows of a second behind its widths and every other segment, from segment 1 on, on it.
+pub fn on_two_layers(job: &[u8], rows: &[(u32, u32)]) -> Vec<u8> {
+    let (records, _) = job.as_chunks::<16>();
+    let (widths, others) = records.split_at(records.iter().filter(|r| r[0] == 1).count());
+    let mut bytes = widths.as_flattened().to_vec();
+    for (i, &(resistance, capacitance)) in rows.iter().enumerate() {
+        push(&mut bytes, [1, i as u8, 1, 0], [resistance, capacitance, 0]);
+    }
+    for record in others {
+        let mut record = *record;
+        if record[0] == 4 {
+            record[15] = record[1] % 2;
+        }
+        bytes.extend(record);
+    }
+    bytes
+}
+
 /// A net of ordinary figures, all ranges whole but that of stage 0.
 pub fn net(stages: usize, segments: usize, shape: Shape) -> Job {
     let mut random = Random(0x9E37_79B9_7F4A_7C15 ^ (segments as u64));

@@ -1,4 +1,4 @@
-//! The same work in plain Rust: questions 1 to 11, delay, refining, bounds, search, reply.
+//! The same work in plain Rust: questions 1 to 11 and 24, delay, refining, bounds, search, reply.
 //! Nothing is shared with the library. A job that passes the questions is read in place, through slices of its records.
 //!
 //! Three ways to go:
@@ -19,10 +19,10 @@ const SEGMENTS: usize = 64;
 /// The most sizings that a search covers.
 const ROOM: u64 = 65_536;
 
-/// A job's records by kind.
+/// A job's records by kind, its widths by layer.
 #[derive(Clone, Copy)]
 pub struct Net<'a> {
-    pub widths: &'a [Record],
+    pub layers: [&'a [Record]; 2],
     pub sizes: &'a [Record],
     pub stages: &'a [Record],
     pub segments: &'a [Record],
@@ -95,6 +95,10 @@ fn word(record: &Record, at: usize) -> u64 {
     u32::from_le_bytes([record[at], record[at + 1], record[at + 2], record[at + 3]]).into()
 }
 
+fn never_falls(records: &[Record], at: usize) -> bool {
+    records.windows(2).all(|w| w[0][at] <= w[1][at])
+}
+
 fn in_order(records: &[Record]) -> bool {
     records.iter().enumerate().all(|(k, r)| usize::from(r[1]) == k)
 }
@@ -107,6 +111,10 @@ fn rises(records: &[Record], at: usize) -> bool {
     records.windows(2).all(|w| word(&w[0], at) < word(&w[1], at))
 }
 
+fn table_in_order(records: &[Record]) -> bool {
+    falls(records, 4) && rises(records, 8)
+}
+
 fn words_within(records: &[Record], at: usize, least: u64, most: u64) -> bool {
     records.iter().all(|r| (least..=most).contains(&word(r, at)))
 }
@@ -115,41 +123,54 @@ fn ranges_within(records: &[Record], at: usize, count: usize) -> bool {
     records.iter().all(|r| r[at] <= r[at + 1] && usize::from(r[at + 1]) < count)
 }
 
-fn sinks_or_none(segments: &[Record]) -> bool {
-    segments.iter().all(|r| r[3] != 0 || (word(r, 8) == 0 && r[12] == 0))
+/// Are a segment's fields in range, capacitance and weight 0 where it has no sink, and its range within its layer's rows?
+fn fits(segment: &Record, layers: &[&[Record]; 2]) -> bool {
+    let capacitance = word(segment, 8);
+    segment[3] <= 1
+        && (1..=1_000).contains(&word(segment, 4))
+        && capacitance <= 100_000
+        && (segment[3] != 0 || (capacitance == 0 && segment[12] == 0))
+        && segment[13] <= segment[14]
+        && usize::from(segment[14]) < layers[usize::from(segment[15])].len()
 }
 
-/// Asks questions 1 to 11 and links the segments; the number of the first question that the job fails is the error.
+/// Asks questions 1, 2, 24 and 3 to 11, in this order, and links the segments; the number of the first question that the job
+/// fails is the error.
 fn check<'a>(job: &'a [u8], links: &mut Links) -> Result<Net<'a>, usize> {
     let (records, rest) = job.as_chunks::<16>();
     if job.is_empty() || !rest.is_empty() {
         return Err(1);
     }
-    if !records.iter().all(|r| (1..=4).contains(&r[0])) || !records.windows(2).all(|w| w[0][0] <= w[1][0]) {
+    if !(records.iter().all(|r| (1..=4).contains(&r[0])) && never_falls(records, 0)) {
         return Err(2);
     }
     let mut counts = [0usize; 5];
     for record in records {
         counts[usize::from(record[0])] += 1;
     }
-    let [_, widths, sizes, stages, segments] = counts;
-    if !(1..=8).contains(&widths)
-        || !(1..=16).contains(&sizes)
-        || !(1..=4).contains(&stages)
-        || !(1..=SEGMENTS).contains(&segments)
-    {
-        return Err(3);
-    }
+    let [_, widths, sizes, stages, _] = counts;
     let (widths, records) = records.split_at(widths);
     let (sizes, records) = records.split_at(sizes);
     let (stages, segments) = records.split_at(stages);
-    if !(in_order(widths) && in_order(sizes) && in_order(stages) && in_order(segments)) {
+    let (first, second) = widths.split_at(widths.iter().filter(|r| r[2] == 0).count());
+    let top = u8::from(!second.is_empty());
+    if !(widths.iter().all(|r| r[2] <= 1) && never_falls(widths, 2) && segments.iter().all(|r| r[15] <= top)) {
+        return Err(24);
+    }
+    if !(1..=8).contains(&first.len())
+        || second.len() > 8
+        || !(1..=16).contains(&sizes.len())
+        || !(1..=4).contains(&stages.len())
+        || !(1..=SEGMENTS).contains(&segments.len())
+    {
+        return Err(3);
+    }
+    if !(in_order(first) && in_order(second) && in_order(sizes) && in_order(stages) && in_order(segments)) {
         return Err(4);
     }
-    if !(widths.iter().all(|r| r[2..4] == [0; 2] && r[12..] == [0; 4])
+    if !(widths.iter().all(|r| r[3] == 0 && r[12..] == [0; 4])
         && sizes.iter().all(|r| r[2..4] == [0; 2])
-        && stages.iter().all(|r| r[4..] == [0; 12])
-        && segments.iter().all(|r| r[15] == 0))
+        && stages.iter().all(|r| r[4..] == [0; 12]))
     {
         return Err(5);
     }
@@ -161,7 +182,7 @@ fn check<'a>(job: &'a [u8], links: &mut Links) -> Result<Net<'a>, usize> {
     {
         return Err(6);
     }
-    if !(falls(widths, 4) && rises(widths, 8) && falls(sizes, 4) && rises(sizes, 8)) {
+    if !(table_in_order(first) && table_in_order(second) && table_in_order(sizes)) {
         return Err(7);
     }
     if !ranges_within(stages, 2, sizes.len()) || stages[0][2] != stages[0][3] {
@@ -170,12 +191,8 @@ fn check<'a>(job: &'a [u8], links: &mut Links) -> Result<Net<'a>, usize> {
     if !segments.iter().enumerate().all(|(i, r)| usize::from(r[2]) <= i) {
         return Err(9);
     }
-    if !(segments.iter().all(|r| r[3] <= 1)
-        && words_within(segments, 4, 1, 1_000)
-        && words_within(segments, 8, 0, 100_000)
-        && sinks_or_none(segments)
-        && ranges_within(segments, 13, widths.len()))
-    {
+    let layers = [first, second];
+    if !segments.iter().all(|r| fits(r, &layers)) {
         return Err(10);
     }
     links.fill(segments);
@@ -188,7 +205,7 @@ fn check<'a>(job: &'a [u8], links: &mut Links) -> Result<Net<'a>, usize> {
         return Err(11);
     }
     Ok(Net {
-        widths,
+        layers,
         sizes,
         stages,
         segments,
@@ -214,6 +231,13 @@ impl Links {
     }
 }
 
+/// The wire of a segment, whatever its width: the rows of its layer, and its length.
+#[derive(Clone, Copy)]
+struct Wire<'a> {
+    rows: &'a [Record],
+    length: u64,
+}
+
 /// A part of the tree: the weight of its sinks, its load, and the scaled delay that arises inside it.
 #[derive(Clone, Copy)]
 struct Part {
@@ -222,9 +246,22 @@ struct Part {
     delay: u64,
 }
 
-impl Net<'_> {
+impl<'a> Net<'a> {
     fn places(&self) -> usize {
         self.stages.len() + self.segments.len()
+    }
+
+    /// The wire of a segment.
+    fn wire(&self, segment: &Record) -> Wire<'a> {
+        Wire {
+            rows: self.layers[usize::from(segment[15])],
+            length: word(segment, 4),
+        }
+    }
+
+    /// The wire of a place that is a segment.
+    fn wire_at(&self, p: usize) -> Option<Wire<'a>> {
+        Some(self.wire(&self.segments[p.checked_sub(self.stages.len())?]))
     }
 
     fn lowest(&self, p: usize) -> u8 {
@@ -250,8 +287,8 @@ impl Net<'_> {
         };
         let mut i = j;
         while let Some(segment) = self.segments.get(i) {
-            let row = &self.widths[usize::from(widths[i])];
-            let length = word(segment, 4);
+            let Wire { rows, length } = self.wire(segment);
+            let row = &rows[usize::from(widths[i])];
             let (resistance, own) = (word(row, 4) * length, word(row, 8) * length);
             let below = self.branches(links, widths, links.first[i + 1]);
             let weight = u64::from(segment[12]) + below.weight;
@@ -269,8 +306,8 @@ impl Net<'_> {
         let mut below = [(0, 0); SEGMENTS + 1];
         let mut delay = 0;
         for (i, (segment, &k)) in self.segments.iter().zip(widths).enumerate().rev() {
-            let row = &self.widths[usize::from(k)];
-            let length = word(segment, 4);
+            let Wire { rows, length } = self.wire(segment);
+            let row = &rows[usize::from(k)];
             let own = word(row, 8) * length;
             let weight = u64::from(segment[12]) + below[i + 1].0;
             let under = word(segment, 8) + below[i + 1].1;
@@ -406,15 +443,10 @@ impl Net<'_> {
         }
     }
 
-    /// The length of a place that is a segment.
-    fn length(&self, p: usize) -> Option<u64> {
-        Some(word(&self.segments[p.checked_sub(self.stages.len())?], 4))
-    }
-
     /// The step of a place to an index, over the load that it drives.
     #[inline(always)]
-    fn step(&self, weight: u64, length: Option<u64>, k: u8, driven: u64) -> Step {
-        match length {
+    fn step(&self, weight: u64, wire: Option<Wire>, k: u8, driven: u64) -> Step {
+        match wire {
             None => {
                 let size = &self.sizes[usize::from(k)];
                 Step {
@@ -422,8 +454,8 @@ impl Net<'_> {
                     load: word(size, 8),
                 }
             }
-            Some(length) => {
-                let row = &self.widths[usize::from(k)];
+            Some(Wire { rows, length }) => {
+                let row = &rows[usize::from(k)];
                 let own = word(row, 8) * length;
                 Step {
                     delay: weight * (word(row, 4) * length * (own + 2 * driven)),
@@ -435,11 +467,9 @@ impl Net<'_> {
 
     /// How the weighted delay of a place grows with each unit of the load that it drives.
     fn slope(&self, weight: u64, p: usize, k: u8) -> u64 {
-        let stages = self.stages.len();
-        if p < stages {
-            weight * word(&self.sizes[usize::from(k)], 4)
-        } else {
-            2 * weight * (word(&self.widths[usize::from(k)], 4) * word(&self.segments[p - stages], 4))
+        match self.wire_at(p) {
+            None => weight * word(&self.sizes[usize::from(k)], 4),
+            Some(Wire { rows, length }) => 2 * weight * (word(&rows[usize::from(k)], 4) * length),
         }
     }
 }
@@ -473,12 +503,13 @@ impl Sums {
             };
             self.driven[p] = sink + gathered[p + 1];
             if lower[p] >= upper[p] {
-                gathered[net.hangs(p)] += net.step(0, net.length(p), lower[p], self.driven[p]).load;
+                gathered[net.hangs(p)] += net.step(0, net.wire_at(p), lower[p], self.driven[p]).load;
             }
         }
     }
 
     /// The upstream of a place's load, from those of the places before it.
+    #[inline(always)]
     fn go_upstream(&mut self, net: &Net, lower: &[u8], upper: &[u8], p: usize) {
         self.upstream[p] = match net.hangs(p).checked_sub(1) {
             Some(a) if lower[a] == upper[a] => {
@@ -489,21 +520,23 @@ impl Sums {
         };
     }
 
-    /// What a place adds at an index, with what its load costs upstream.
+    /// What a place adds at an index, with what its load costs upstream; `wire` is its wire, where it is a segment.
     #[inline(always)]
-    fn cost(&self, net: &Net, p: usize, k: u8) -> u64 {
-        let step = net.step(self.weights[p], net.length(p), k, self.driven[p]);
+    fn cost(&self, net: &Net, p: usize, wire: Option<Wire>, k: u8) -> u64 {
+        let step = net.step(self.weights[p], wire, k, self.driven[p]);
         step.delay + self.upstream[p] * step.load
     }
 
     /// The tie at a place, the rest held.
+    #[inline(always)]
     fn settled(&self, net: &Net, p: usize) -> Tie {
-        Tie::among(net.lowest(p), net.highest(p), |k| self.cost(net, p, k))
+        let wire = net.wire_at(p);
+        Tie::among(net.lowest(p), net.highest(p), |k| self.cost(net, p, wire, k))
     }
 
     /// The scaled delay of a sizing whose places are all held.
     fn delay(&self, net: &Net, x: &[u8]) -> u64 {
-        let own = |p: usize| net.step(self.weights[p], net.length(p), x[p], self.driven[p]).delay;
+        let own = |p: usize| net.step(self.weights[p], net.wire_at(p), x[p], self.driven[p]).delay;
         (0..x.len()).map(own).sum()
     }
 
@@ -528,7 +561,8 @@ impl Sums {
     }
 }
 
-/// The search over the free places, from the last to the first. Loads go past held segments at once.
+/// The search over the free places, from the last to the first. Loads go past held segments at once. `rows` has those of
+/// each segment's layer, by place.
 struct Search<'a, 'f> {
     net: Net<'a>,
     sums: &'a Sums,
@@ -537,11 +571,21 @@ struct Search<'a, 'f> {
     x: &'a mut [u8],
     ups: [usize; PLACES],
     skips: [usize; PLACES + 1],
+    rows: [&'a [Record]; PLACES],
     gathered: [u64; PLACES + 1],
     found: &'a mut Found<'f>,
 }
 
-impl Search<'_, '_> {
+impl<'a> Search<'a, '_> {
+    /// The wire of a place that is a segment, its rows from the table, so that no layer is looked at in the search.
+    fn wire(&self, p: usize) -> Option<Wire<'a>> {
+        let segment = &self.net.segments[p.checked_sub(self.net.stages.len())?];
+        Some(Wire {
+            rows: self.rows[p],
+            length: word(segment, 4),
+        })
+    }
+
     fn all(&mut self) {
         let places = self.net.places();
         self.x.copy_from_slice(self.lower);
@@ -557,8 +601,11 @@ impl Search<'_, '_> {
             self.skips[p + 1] = if held { self.skips[p] } else { p + 1 };
             if held {
                 let (weight, driven) = (self.sums.weights[p], self.sums.driven[p]);
-                fixed += self.net.step(weight, self.net.length(p), self.lower[p], driven).delay;
+                fixed += self.net.step(weight, self.net.wire_at(p), self.lower[p], driven).delay;
             }
+        }
+        for (rows, segment) in self.rows[self.net.stages.len()..].iter_mut().zip(self.net.segments) {
+            *rows = self.net.wire(segment).rows;
         }
         match self.skips[places] {
             0 => self.found.keep(self.x, fixed),
@@ -572,9 +619,9 @@ impl Search<'_, '_> {
         let p = left - 1;
         let (weight, upstream) = (self.sums.weights[p], self.sums.upstream[p]);
         let driven = self.sums.driven[p] + self.gathered[p + 1];
-        let length = self.net.length(p);
+        let wire = self.wire(p);
         let reached = |net: &Net, k: u8| {
-            let step = net.step(weight, length, k, driven);
+            let step = net.step(weight, wire, k, driven);
             added + step.delay + upstream * step.load
         };
         let mut k = self.lower[p];
@@ -596,13 +643,13 @@ impl Search<'_, '_> {
         let p = left - 1;
         let (weight, upstream) = (self.sums.weights[p], self.sums.upstream[p]);
         let driven = self.sums.driven[p] + self.gathered[p + 1];
-        let length = self.net.length(p);
+        let wire = self.wire(p);
         let rest = self.skips[p];
         let further = self.skips[rest - 1];
         let node = self.ups[p];
         let before = self.gathered[node];
         for k in self.lower[p]..=self.upper[p] {
-            let step = self.net.step(weight, length, k, driven);
+            let step = self.net.step(weight, wire, k, driven);
             let reached = added + step.delay + upstream * step.load;
             self.x[p] = k;
             self.gathered[node] = before + step.load;
@@ -653,8 +700,9 @@ impl PassSearch<'_, '_> {
     }
 
     /// Puts a segment at a width; the answer is what that adds to the delay.
-    fn put_width(&mut self, p: usize, k: u8, weight: u64, length: u64, driven: u64) -> u64 {
-        let row = &self.net.widths[usize::from(k)];
+    fn put_width(&mut self, p: usize, k: u8, weight: u64, wire: Wire, driven: u64) -> u64 {
+        let Wire { rows, length } = wire;
+        let row = &rows[usize::from(k)];
         let own = word(row, 8) * length;
         self.x[p] = k;
         self.loads[p] = own + driven;
@@ -672,7 +720,7 @@ impl PassSearch<'_, '_> {
             } else {
                 let i = left - stages;
                 let segment = &self.net.segments[i];
-                self.put_width(left, k, weight, word(segment, 4), self.driven_by_segment(segment, i))
+                self.put_width(left, k, weight, self.net.wire(segment), self.driven_by_segment(segment, i))
             };
         }
         if left == 0 {
@@ -691,9 +739,9 @@ impl PassSearch<'_, '_> {
             let i = p - stages;
             let segment = &self.net.segments[i];
             let driven = self.driven_by_segment(segment, i);
-            let length = word(segment, 4);
+            let wire = self.net.wire(segment);
             for k in self.lower[p]..=self.upper[p] {
-                let step = self.put_width(p, k, weight, length, driven);
+                let step = self.put_width(p, k, weight, wire, driven);
                 self.places_before(p, added + step);
             }
         }
@@ -773,7 +821,7 @@ fn refine_by(job: &[u8], sizing: &[u8], place: usize, way: Way) -> Result<Refine
             }
             let tie = sums.settled(&net, place);
             Tie {
-                cost: sums.delay(&net, x) + tie.cost - sums.cost(&net, place, x[place]),
+                cost: sums.delay(&net, x) + tie.cost - sums.cost(&net, place, net.wire_at(place), x[place]),
                 ..tie
             }
         }
@@ -868,6 +916,7 @@ fn size_by(job: &[u8], reply: &mut [u8], way: Way) -> usize {
             x,
             ups: [0; PLACES],
             skips: [0; PLACES + 1],
+            rows: [&[]; PLACES],
             gathered: [0; PLACES + 1],
             found: &mut found,
         }

@@ -6,7 +6,7 @@ use text::widened;
 ghost use mathlib.Core.Path.{_≡_};
 ghost use Prim.Native.Nat.{_+_, _^_, _<_, _≤_};
 ghost use lib.ListN.{length};
-ghost use Rattle.net.specs.Job.{byte, word, widthAt, widthsOf, firstRow, sizeAt, placeAt, segmentAt, segmentLayer, placesBy};
+ghost use Rattle.net.specs.Job.{byte, word, widthAt, widthsOf, firstRow, sizeAt, placeAt, segmentAt, segmentLength, segmentLayer, placesBy};
 ghost use Rattle.net.specs.Net.{netBy};
 ghost use Rattle.net.specs.Checked.{Held};
 ghost use Rattle.job.specs.WireAt.{WireAt};
@@ -121,6 +121,15 @@ pub fn place_byte(job: &[u8], counts: Counts, p: usize, at: usize) -> u8
     job[16 * (counts.widths + counts.sizes + p) + at]
 }
 
+// A word of place p's record.
+pub fn place_word(job: &[u8], counts: Counts, p: usize, at: usize) -> u64
+    requires { ⌜ Held counts (now job) ⌝ }
+    requires { ⌜ (p < placesBy counts) × (at ≤ 12) ⌝ }
+    ensures { λ r. ⌜ (r ≡ word (now (job .entry)) (placeAt counts p + at)) × (r < 2 ^ 32) ⌝ }
+{
+    word_at(job, 16 * (counts.widths + counts.sizes + p) + at)
+}
+
 // Where among the widths the table of place p's layer starts. A stage has no layer, and the byte zero; a layer is 0 or 1, so the table starts at
 // layer times the widths of layer 0.
 pub fn first_row(job: &[u8], counts: Counts, p: usize) -> usize
@@ -131,17 +140,17 @@ pub fn first_row(job: &[u8], counts: Counts, p: usize) -> usize
     index(place_byte(job, counts, p, 15)) * counts.layer0
 }
 
-// Segment i's wire at the width k, where the table of its layer starts at `rows`.
-pub fn wire_from(job: &[u8], counts: Counts, rows: usize, i: usize, k: usize) -> Wire
+// Segment i's wire at the width k, where the table of its layer starts at `rows` and its length is `length`.
+pub fn wire_from(job: &[u8], counts: Counts, rows: usize, length: u64, i: usize, k: usize) -> Wire
     requires { ⌜ Held counts (now job) ⌝ }
     requires { ⌜ rows ≡ firstRow counts (segmentLayer counts (now job) i) ⌝ }
+    requires { ⌜ (length ≡ segmentLength counts (now job) i) × (length < 2 ^ 32) ⌝ }
     requires { ⌜ (i < counts .segments) × (k < widthsOf counts (segmentLayer counts (now job) i)) ⌝ }
     ensures { λ r. ⌜ WireAt (netBy counts (now (job .entry))) i k r ⌝ }
 {
     let row = rows + k;
     let resistance = row_word(job, counts, row, 4);
     let capacitance = row_word(job, counts, row, 8);
-    let length = segment_word(job, counts, i, 4);
     Wire {
         resistance: quantity::wire_resistance(Resistance(resistance), length),
         capacitance: quantity::wire_capacitance(Capacitance(capacitance), length),
@@ -156,7 +165,8 @@ pub fn wire_at(job: &[u8], counts: Counts, i: usize, k: usize) -> Wire
     ensures { λ r. ⌜ WireAt (netBy counts (now (job .entry))) i k r ⌝ }
 {
     let rows = first_row(job, counts, counts.stages + i);
-    wire_from(job, counts, rows, i, k)
+    let length = segment_word(job, counts, i, 4);
+    wire_from(job, counts, rows, length, i, k)
 }
 
 // The resistance of a driver of the size k.

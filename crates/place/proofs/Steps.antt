@@ -6,7 +6,7 @@ use native.Mathlib.Nat.{mul-le-mul}
 use native.Mathlib.Omega.{arith}
 use borrow.Author.Tests.{lt-ltb, le-ltb}
 use Rattle.net.specs.declared.Counts.{Counts}
-use Rattle.net.specs.Job.{placesBy, widthsOf, firstRow, segmentLayer}
+use Rattle.net.specs.Job.{word, placesBy, placeAt, widthsOf, firstRow, segmentLength, segmentLayer}
 use Rattle.net.specs.Net.{Net, netBy}
 use Rattle.net.specs.Checked.{Checked}
 use Rattle.net.specs.Places.{placeWeight, delayAt, loadAt}
@@ -43,6 +43,9 @@ module _ (net : Net) (w u k l : ℕ) (r : PlaceStep) where
 module _ (c : Counts) (b : List ℕ) where
   pub rows-segment : (p : ℕ) → c .stages ≤ p → rowsAt c b p ≡ firstRow c (segmentLayer c b (p - c .stages))
   rows-segment p h = let e : c .stages + (p - c .stages) ≡ p = omega arith in rw e
+
+  pub length-segment : (p : ℕ) → c .stages ≤ p → word b (placeAt c p + 4) ≡ segmentLength c b (p - c .stages)
+  length-segment p h = let e : c .stages + (p - c .stages) ≡ p = omega arith in rw e
 
 -- the index of a segment is one of its layer
 pub width-at : {c : Counts} {b : List ℕ} → Checked c b → (p : ℕ) → c .stages ≤ p → p < placesBy c

@@ -3,7 +3,7 @@ use mathlib.Core.Path.{_≡_}
 use mathlib.Core.List.{List}
 use Prim.Native.Nat.{ℕ, _+_, _*_, _^_, _≤_, _<_}
 use Rattle.net.specs.declared.Counts.{Counts}
-use Rattle.net.specs.Job.{byte, placesBy, widthsOf, firstRow, placeAt, segmentLayer}
+use Rattle.net.specs.Job.{byte, word, placesBy, widthsOf, firstRow, placeAt, segmentLayer}
 use Rattle.net.specs.Net.{netBy}
 use Rattle.net.specs.Places.{placeWeight}
 use Rattle.place.specs.declared.PlaceStep.{PlaceStep}
@@ -33,6 +33,10 @@ module _ (c : Counts) (b : List ℕ) where
   -- Where the table of place p's layer starts; a stage has no layer, and the byte zero.
   abbrev pub rowsAt : ℕ → ℕ
   rowsAt p = firstRow c (byte b (placeAt c p + 15))
+
+  -- The length of place p is l; a stage has none, and zeros in its place.
+  abbrev pub LengthAt : ℕ → ℕ → Type 0
+  LengthAt p l = (l ≡ word b (placeAt c p + 4)) × (l < 2 ^ 32)
 
   -- Place p may have the index k, and has the weight w.
   abbrev pub IndexAndWeight : ℕ → ℕ → ℕ → Type 0

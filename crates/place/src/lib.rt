@@ -4,14 +4,14 @@ use quantity::Capacitance;
 use quantity::Delay;
 use quantity::Resistance;
 ghost use mathlib.Core.Path.{_≡_};
-ghost use Prim.Native.Nat.{_+_, _*_, _<_, _≤_};
+ghost use Prim.Native.Nat.{_+_, _*_, _^_, _<_, _≤_};
 ghost use lib.ListN.{length};
 ghost use Rattle.lattice.specs.Lists.{at};
-ghost use Rattle.net.specs.Job.{firstRow, segmentLayer, placesBy};
+ghost use Rattle.net.specs.Job.{firstRow, segmentLength, segmentLayer, placesBy};
 ghost use Rattle.net.specs.Net.{netBy};
 ghost use Rattle.net.specs.Places.{loadAt};
 ghost use Rattle.net.specs.Checked.{Checked, AllowedBy};
-ghost use Rattle.place.specs.ByCounts.{Weighed, HangsAt, SinkAt, DriveInLimits, rowsAt, IndexAndWeight, SlopeAt, StepInLimits, Stepped, Driven, fixedDelay, onwardFrom, upstreamOf, Upstream, StageInLimits, SegmentInLimits, ChargeInLimits, Charged};
+ghost use Rattle.place.specs.ByCounts.{Weighed, HangsAt, SinkAt, DriveInLimits, rowsAt, LengthAt, IndexAndWeight, SlopeAt, StepInLimits, Stepped, Driven, fixedDelay, onwardFrom, upstreamOf, Upstream, StageInLimits, SegmentInLimits, ChargeInLimits, Charged};
 
 // What a place adds at one of its indices: its part of the scaled delay with what its load costs upstream, and the load that it shows.
 pub struct PlaceStep {
@@ -204,7 +204,7 @@ fn stage_step(
     charged_upstream(upstream, own, job::gate(job, counts, k))
 }
 
-// The step of segment i to the width k, where the table of its layer starts at `rows` and it drives the load `driven`.
+// The step of segment i to the width k, where the table of its layer starts at `rows`, its length is `length` and it drives the load `driven`.
 fn segment_step(
     job: &[u8],
     counts: Counts,
@@ -212,15 +212,17 @@ fn segment_step(
     upstream: Resistance,
     i: usize,
     rows: usize,
+    length: u64,
     k: usize,
     driven: Capacitance,
 ) -> PlaceStep
     requires { ⌜ Checked counts (now job) ⌝ }
     requires { ⌜ rows ≡ firstRow counts (segmentLayer counts (now job) i) ⌝ }
+    requires { ⌜ (length ≡ segmentLength counts (now job) i) × (length < 2 ^ 32) ⌝ }
     requires { ⌜ SegmentInLimits counts (now job) weight (upstream .0) i k (driven .0) ⌝ }
     ensures { λ r. ⌜ Stepped counts (now (job .entry)) weight (upstream .0) (counts .stages + i) k (driven .0) r ⌝ }
 {
-    let wire = job::wire_from(job, counts, rows, i, k);
+    let wire = job::wire_from(job, counts, rows, length, i, k);
     let own = wire.capacitance;
     let resistance = wire.resistance;
     let charged = quantity::charged_twice(own, driven);
@@ -229,7 +231,7 @@ fn segment_step(
 }
 
 // The step of place p to the index k, where it has the weight `weight`, the resistance `upstream` before it and the load `driven` behind it, and
-// the table of its layer starts at `rows`: a loop over the indices of a place reads its layer once, before it.
+// the table of its layer starts at `rows`, and its length, of a segment, is `length`: a loop over the indices of a place reads both once, before it.
 pub fn step_to(
     job: &[u8],
     counts: Counts,
@@ -237,11 +239,13 @@ pub fn step_to(
     upstream: Resistance,
     p: usize,
     rows: usize,
+    length: u64,
     k: usize,
     driven: Capacitance,
 ) -> PlaceStep
     requires { ⌜ Checked counts (now job) ⌝ }
     requires { ⌜ rows ≡ rowsAt counts (now job) p ⌝ }
+    requires { ⌜ LengthAt counts (now job) p length ⌝ }
     requires { ⌜ StepInLimits counts (now job) weight (upstream .0) p k (driven .0) ⌝ }
     ensures { λ r. ⌜ Stepped counts (now (job .entry)) weight (upstream .0) p k (driven .0) r ⌝ }
 {
@@ -255,6 +259,7 @@ pub fn step_to(
         upstream,
         p - counts.stages,
         rows,
+        length,
         k,
         driven,
     )
@@ -268,11 +273,13 @@ pub fn step(
     upstream: Resistance,
     p: usize,
     rows: usize,
+    length: u64,
     k: u8,
     driven: Capacitance,
 ) -> PlaceStep
     requires { ⌜ Checked counts (now job) ⌝ }
     requires { ⌜ rows ≡ rowsAt counts (now job) p ⌝ }
+    requires { ⌜ LengthAt counts (now job) p length ⌝ }
     requires { ⌜ StepInLimits counts (now job) weight (upstream .0) p k (driven .0) ⌝ }
     ensures { λ r. ⌜ Stepped counts (now (job .entry)) weight (upstream .0) p k (driven .0) r ⌝ }
 {
@@ -283,12 +290,13 @@ pub fn step(
         upstream,
         p,
         rows,
+        length,
         job::index(k),
         driven,
     )
 }
 
-// The same, where the layer is read for this one step.
+// The same, where the layer and the length are read for this one step.
 pub fn step_at(
     job: &[u8],
     counts: Counts,
@@ -303,7 +311,8 @@ pub fn step_at(
     ensures { λ r. ⌜ Stepped counts (now (job .entry)) weight (upstream .0) p k (driven .0) r ⌝ }
 {
     let rows = job::first_row(job, counts, p);
-    step(job, counts, weight, upstream, p, rows, k, driven)
+    let length = job::place_word(job, counts, p, 4);
+    step(job, counts, weight, upstream, p, rows, length, k, driven)
 }
 
 // What the held places add to the delay.

@@ -29,6 +29,7 @@ pub fn settle(
     ensures { λ r. ⌜ Settled (netBy counts (now (job .entry))) weight (upstream .0) place (driven .0) r ⌝ }
 {
     let rows = job::first_row(job, counts, place);
+    let length = job::place_word(job, counts, place, 4);
     let top = job::index(job::highest(job, counts, place));
     let mut lowest = job::index(job::lowest(job, counts, place));
     let mut highest = lowest;
@@ -39,11 +40,22 @@ pub fn settle(
         upstream,
         place,
         rows,
+        length,
         lowest,
         driven,
     ).delay;
     for k in lowest + 1..top + 1 {
-        let cost = place::step_to(job, counts, weight, upstream, place, rows, k, driven).delay;
+        let cost = place::step_to(
+            job,
+            counts,
+            weight,
+            upstream,
+            place,
+            rows,
+            length,
+            k,
+            driven,
+        ).delay;
         if cost.0 < least.0 {
             least = cost;
             lowest = k;

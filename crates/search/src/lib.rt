@@ -10,7 +10,7 @@ ghost use lib.ListN.{length};
 ghost use Rattle.envelope.specs.Kept.{found};
 ghost use Rattle.net.specs.Job.{placesBy};
 ghost use Rattle.net.specs.Checked.{Checked, AllowedBy, ForPlaces};
-ghost use Rattle.place.specs.ByCounts.{Weighed, rowsAt, StepInLimits, Driven};
+ghost use Rattle.place.specs.ByCounts.{Weighed, rowsAt, LengthAt, StepInLimits, Driven};
 ghost use Rattle.search.specs.Searching.{Bounds, Prepared, LastFree, MoreFree, BothLong, Skipped, AllFit, Tabled, PassedBy, PassedAt, SizedBy, arrivesAt, Lifted, SearchedFrom, takenBetween};
 
 // The node at which a load at `node` arrives, through the held segments above it.
@@ -89,7 +89,7 @@ fn find_tables(job: &[u8], counts: Counts, tables: &mut [usize; 68])
 }
 
 // The first index of place p from `low` on that gives a delay of at most `least`, or the one past `top`, where the table of its layer starts at
-// `rows`. It writes nothing and is called at the
+// `rows` and its length is `length`. It writes nothing and is called at the
 // last free place, so most sizings of a search are passed over by it.
 fn pass_over(
     job: &[u8],
@@ -98,6 +98,7 @@ fn pass_over(
     before: Resistance,
     p: usize,
     rows: usize,
+    length: u64,
     load: Capacitance,
     added: Delay,
     least: Delay,
@@ -106,6 +107,7 @@ fn pass_over(
 ) -> u8
     requires { ⌜ Checked counts (now job) ⌝ }
     requires { ⌜ rows ≡ rowsAt counts (now job) p ⌝ }
+    requires { ⌜ LengthAt counts (now job) p length ⌝ }
     requires { ⌜ StepInLimits counts (now job) weight (before .0) p top (load .0) ⌝ }
     requires { ⌜ (low ≤ top) × (top < 16) ⌝ }
     requires { ⌜ AllFit counts (now job) weight (before .0) p (load .0) (added .0) low top ⌝ }
@@ -113,7 +115,7 @@ fn pass_over(
 {
     let mut k = low;
     while k <= top {
-        let step = place::step(job, counts, weight, before, p, rows, k, load);
+        let step = place::step(job, counts, weight, before, p, rows, length, k, load);
         let reached = quantity::add_delay(added, step.delay);
         if reached.0 <= least.0 {
             return k;
@@ -158,6 +160,7 @@ fn take_from(
 {
     let p = left - 1;
     let rows = tables[p];
+    let length = job::place_word(job, counts, p, 4);
     let weight = weights[p];
     let before = Resistance(upstream[p]);
     let load = quantity::add_capacitance(Capacitance(driven[p]), Capacitance(gathered[p + 1]));
@@ -166,7 +169,7 @@ fn take_from(
     let mut best = least;
     while k <= top {
         let index = k;
-        let step = place::step(job, counts, weight, before, p, rows, index, load);
+        let step = place::step(job, counts, weight, before, p, rows, length, index, load);
         let reached = quantity::add_delay(added, step.delay);
         k += 1;
         if reached.0 <= best.0 {
@@ -209,9 +212,11 @@ fn search(
 {
     let p = left - 1;
     let rows = tables[p];
+    let length = job::place_word(job, counts, p, 4);
     let rest = skips[p];
     let next = rest - 1;
     let next_rows = tables[next];
+    let next_length = job::place_word(job, counts, next, 4);
     let further = skips[next];
     let weight = weights[p];
     let before = Resistance(upstream[p]);
@@ -222,7 +227,7 @@ fn search(
     let mut k = lower[p];
     let mut best = least;
     while k <= top {
-        let step = place::step(job, counts, weight, before, p, rows, k, load);
+        let step = place::step(job, counts, weight, before, p, rows, length, k, load);
         let reached = quantity::add_delay(added, step.delay);
         let shown = step.load;
         x[p] = k;
@@ -239,6 +244,7 @@ fn search(
                 Resistance(upstream[next]),
                 next,
                 next_rows,
+                next_length,
                 quantity::add_capacitance(here, arrived),
                 reached,
                 best,

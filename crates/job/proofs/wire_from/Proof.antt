@@ -7,19 +7,16 @@ use Rattle.job.proofs.wire_from.Tie as tie
 
 add-row : tie.Need-add-row
 add-row c =
-    let h = row-held (c .before .pre .0) _ _ (c .before .pre .1 .1 .1) in
+    let h = row-held (c .before .pre .0) _ _ (c .before .pre .1 .1 .1 .1) in
     omega (arith, h, c .before .pre .0 .all, c .before .pre .1 .0)
 
 row-word-requires : tie.Need-row-word-requires
-row-word-requires c κs = (c .before .pre .0, (rw (c .before .pre .1 .0) (row-held (c .before .pre .0) _ _ (c .before .pre .1 .1 .1)), omega arith))
+row-word-requires c κs = (c .before .pre .0, (rw (c .before .pre .1 .0) (row-held (c .before .pre .0) _ _ (c .before .pre .1 .1 .1 .1)), omega arith))
 
 row-word-requires-2 : tie.Need-row-word-requires-2
 row-word-requires-2 c κs =
     let b = c .before .before in
-    (b .pre .0, (rw (b .pre .1 .0) (row-held (b .pre .0) _ _ (b .pre .1 .1 .1)), omega arith))
-
-segment-word-requires : tie.Need-segment-word-requires
-segment-word-requires c κs = search needs
+    (b .pre .0, (rw (b .pre .1 .0) (row-held (b .pre .0) _ _ (b .pre .1 .1 .1 .1)), omega arith))
 
 wire-resistance-requires : tie.Need-wire-resistance-requires
 wire-resistance-requires c κs = search needs
@@ -37,7 +34,6 @@ wire-from-spec =
     add-row
     row-word-requires
     row-word-requires-2
-    segment-word-requires
     wire-resistance-requires
     wire-capacitance-requires
     returns)

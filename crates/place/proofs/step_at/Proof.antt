@@ -8,6 +8,9 @@ first-row-requires c κs =
     let b = c .before in
     (b .pre .0 .held, (b .pre .1 .0, b .pre .0 .layers (b .args .p) (b .pre .1 .0)))
 
+place-word-requires : tie.Need-place-word-requires
+place-word-requires c κs = search needs
+
 step-requires : tie.Need-step-requires
 step-requires c κs = search needs
 
@@ -15,4 +18,4 @@ returns : tie.Need-returns
 returns c = c .step .ensures
 
 pub step-at-spec : {M : Type 1} → statement M
-step-at-spec = tie.close (tie.spec first-row-requires step-requires returns)
+step-at-spec = tie.close (tie.spec first-row-requires place-word-requires step-requires returns)

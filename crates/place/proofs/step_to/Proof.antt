@@ -2,7 +2,7 @@
 use mathlib.Core.Path.{_≡_, _∙_}
 use Prim.Native.Nat.{_+_, _-_}
 use native.Mathlib.Omega.{arith}
-use Rattle.place.proofs.Steps.{width-at, rows-segment}
+use Rattle.place.proofs.Steps.{width-at, rows-segment, length-segment}
 use Rattle.place.proofs.step_to.Statement.{statement}
 use Rattle.place.proofs.step_to.Tie as tie
 
@@ -19,7 +19,8 @@ segment-step-requires c κs =
     let b = c .before .before .before .before in
     let w = width-at (b .pre .0) (b .args .p) (omega arith) (omega arith) in
     let r = b .pre .1 .0 ∙ rows-segment (b .args .counts) (b .args .job .now) (b .args .p) (omega arith) in
-    (b .pre .0, (r, (omega arith, omega arith, omega arith, omega arith, omega arith)))
+    let l = b .pre .1 .1 .0 .0 ∙ length-segment (b .args .counts) (b .args .job .now) (b .args .p) (omega arith) in
+    (b .pre .0, (r, ((l, b .pre .1 .1 .0 .1), (omega arith, omega arith, omega arith, omega arith, omega arith))))
 
 returns-2 : tie.Need-returns-2
 returns-2 c =

@@ -12,16 +12,19 @@ use Rattle.refine.proofs.settle.Statement.{statement}
 use Rattle.refine.proofs.settle.Tie as tie
 
 abbrev Inv-loop : tie.InvT-loop
-Inv-loop job counts weight upstream place driven rows top lowest₀ highest₀ least₀ k₀ k-end lowest highest least k =
+Inv-loop job counts weight upstream place driven rows length top lowest₀ highest₀ least₀ k₀ k-end lowest highest least k =
     Scanned (netBy counts job .lowest place) (cost (netBy counts job) weight (upstream .0) place (driven .0)) k lowest highest (least .0) × (k ≤ k-end) × (least .0 < 2 ^ 63)
 
 abbrev μ-loop : tie.MeasureT-loop
-μ-loop job counts weight upstream place driven rows top lowest₀ highest₀ least₀ k₀ k-end lowest highest least k = k-end - k
+μ-loop job counts weight upstream place driven rows length top lowest₀ highest₀ least₀ k₀ k-end lowest highest least k = k-end - k
 
 first-row-requires : tie.Need-first-row-requires Inv-loop μ-loop
 first-row-requires c κs =
     let b = c .before in
     (b .pre .0 .held, (b .pre .1 .0, b .pre .0 .layers (b .args .place) (b .pre .1 .0)))
+
+place-word-requires : tie.Need-place-word-requires Inv-loop μ-loop
+place-word-requires c κs = search needs
 
 highest-requires : tie.Need-highest-requires Inv-loop μ-loop
 highest-requires c κs = search needs
@@ -37,8 +40,8 @@ index-requires-2 c κs = search needs
 
 step-to-requires : tie.Need-step-to-requires Inv-loop μ-loop
 step-to-requires c κs =
-    let b = c .before .before .before .before .before .before in
-    (b .pre .0, (c .before .before .before .before .first-row .ensures, (b .pre .1 .0, omega (arith, c .index2 .ensures, c .before .lowest .ensures, b .pre .0 .ranges (b .args .place) (b .pre .1 .0)), b .pre .1 .1, b .pre .1 .2, b .pre .1 .3)))
+    let b = c .before .before .before .before .before .before .before in
+    (b .pre .0, (c .before .before .before .before .before .first-row .ensures, (c .before .before .before .before .place-word .ensures, (b .pre .1 .0, omega (arith, c .index2 .ensures, c .before .lowest .ensures, b .pre .0 .ranges (b .args .place) (b .pre .1 .0)), b .pre .1 .1, b .pre .1 .2, b .pre .1 .3))))
 
 add-k : tie.Need-add-k Inv-loop μ-loop
 add-k c = search needs
@@ -48,7 +51,7 @@ add-k-end c = search needs
 
 loop-holds : tie.Need-loop-holds Inv-loop μ-loop
 loop-holds c =
-    let b = c .before .before .before .before .before .before .before .before in
+    let b = c .before .before .before .before .before .before .before .before .before in
     let p = b .args .place in
     let low = c .before .before .index2 .ensures .0 ∙ c .before .before .before .lowest .ensures in (
       scan-start (netBy (b .args .counts) (b .args .job .now) .lowest p) _ _ _ low (c .before .step-to .ensures .delay),
@@ -58,8 +61,8 @@ loop-holds c =
 
 step-to-requires-2 : tie.Need-step-to-requires-2 Inv-loop μ-loop
 step-to-requires-2 c κs =
-    let b = c .before .before .before .before .before .before .before .before .before .before in
-    (b .pre .0, (c .before .before .before .before .before .before .before .before .first-row .ensures, (b .pre .1 .0, omega (arith, c .loop-test .taken, c .before .before .before .before .before .before .index .ensures, c .before .before .before .before .before .before .before .highest .ensures), b .pre .1 .1, b .pre .1 .2, b .pre .1 .3)))
+    let b = c .before .before .before .before .before .before .before .before .before .before .before in
+    (b .pre .0, (c .before .before .before .before .before .before .before .before .before .first-row .ensures, (c .before .before .before .before .before .before .before .before .place-word .ensures, (b .pre .1 .0, omega (arith, c .loop-test .taken, c .before .before .before .before .before .before .index .ensures, c .before .before .before .before .before .before .before .highest .ensures), b .pre .1 .1, b .pre .1 .2, b .pre .1 .3))))
 
 add-k-2 : tie.Need-add-k-2 Inv-loop μ-loop
 add-k-2 c = omega (arith, c .before .before .before .before .before .loop-test .taken, c .before .before .before .before .before .before .before .before .before .before .before .index .ensures)
@@ -77,15 +80,15 @@ loop-again c =
       ⊎-elim (λ w. rw (w .3) (c .before .before .before .before .step-to2 .ensures .fits)) (⊎-elim (λ w. rw (w .6) (l .inv .2)) (λ w. rw (w .6) (l .inv .2))) (c .if1 .came),
     )
 
-cast-t14 : tie.Need-cast-t14 Inv-loop μ-loop
-cast-t14 c = omega (arith, c .before .loop .inv .0 .low .high, c .before .loop .inv .1, c .before .before .before .before .before .before .index .ensures)
+cast-t15 : tie.Need-cast-t15 Inv-loop μ-loop
+cast-t15 c = omega (arith, c .before .loop .inv .0 .low .high, c .before .loop .inv .1, c .before .before .before .before .before .before .index .ensures)
 
-cast-t20 : tie.Need-cast-t20 Inv-loop μ-loop
-cast-t20 c = omega (arith, c .before .loop .inv .0 .high .high, c .before .loop .inv .1, c .before .before .before .before .before .before .index .ensures)
+cast-t21 : tie.Need-cast-t21 Inv-loop μ-loop
+cast-t21 c = omega (arith, c .before .loop .inv .0 .high .high, c .before .loop .inv .1, c .before .before .before .before .before .before .index .ensures)
 
 returns : tie.Need-returns Inv-loop μ-loop
 returns c =
-    let b = c .before .before .before .before .before .before .before .before .before .before in
+    let b = c .before .before .before .before .before .before .before .before .before .before .before in
     scanned-settled (netBy (b .args .counts) (b .args .job .now)) _ _ (b .args .place) _ _ _ (c .before .loop .inv .0) (c .before .loop .inv .2)
     (omega (arith, c .before .loop .inv .1, c .loop-test .left, c .before .before .before .before .before .before .index .ensures, c .before .before .before .before .before .before .before .highest .ensures))
 
@@ -96,6 +99,7 @@ settle-spec =
     Inv-loop
     μ-loop
     first-row-requires
+    place-word-requires
     highest-requires
     index-requires
     lowest-requires
@@ -108,6 +112,6 @@ settle-spec =
     add-k-2
     loop-less
     loop-again
-    cast-t14
-    cast-t20
+    cast-t15
+    cast-t21
     returns)

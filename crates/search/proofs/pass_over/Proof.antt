@@ -12,25 +12,25 @@ use Rattle.place.proofs.step.Reads as step-reads
 use Rattle.quantity.proofs.add_delay.Reads as add-delay-reads
 
 abbrev Inv-loop : tie.InvT-loop
-Inv-loop job counts weight before p rows load added least low top k₀ k =
+Inv-loop job counts weight before p rows length load added least low top k₀ k =
     PassedTo (netBy counts job) weight (before .0) p (load .0) (added .0) (least .0) low top k
 
 abbrev μ-loop : tie.MeasureT-loop
-μ-loop job counts weight before p rows load added least low top k₀ k = suc top - k
+μ-loop job counts weight before p rows length load added least low top k₀ k = suc top - k
 
 loop-holds : tie.Need-loop-holds Inv-loop μ-loop
-loop-holds c = passing-start (c .before .pre .1 .1 .1 .0 .0)
+loop-holds c = passing-start (c .before .pre .1 .1 .1 .1 .0 .0)
 
 step-requires : tie.Need-step-requires Inv-loop μ-loop
 step-requires c κs =
     let b = c .before .before .before in
-    (b .pre .0, (b .pre .1 .0, (b .pre .1 .1 .0 .0, omega (arith, c .loop-test .taken, b .pre .1 .1 .0 .1), b .pre .1 .1 .0 .2, b .pre .1 .1 .0 .3, b .pre .1 .1 .0 .4)))
+    (b .pre .0, (b .pre .1 .0, (b .pre .1 .1 .0, (b .pre .1 .1 .1 .0 .0, omega (arith, c .loop-test .taken, b .pre .1 .1 .1 .0 .1), b .pre .1 .1 .1 .0 .2, b .pre .1 .1 .1 .0 .3, b .pre .1 .1 .1 .0 .4))))
 
 add-delay-requires : tie.Need-add-delay-requires Inv-loop μ-loop
 add-delay-requires c κs =
     let b = c .before .before .before .before in
     let l = c .before .before .loop in
-    omega (arith, c .step .ensures .delay, b .pre .1 .1 .1 .1 (l .k) (l .inv .from) (c .before .loop-test .taken))
+    omega (arith, c .step .ensures .delay, b .pre .1 .1 .1 .1 .1 (l .k) (l .inv .from) (c .before .loop-test .taken))
 
 returns : tie.Need-returns Inv-loop μ-loop
 returns c = c .before .before .before .before .before .before .loop .inv
@@ -38,7 +38,7 @@ returns c = c .before .before .before .before .before .before .loop .inv
 add-k : tie.Need-add-k Inv-loop μ-loop
 add-k c =
     let b = c .before .before .before .before .before .before .before .before in
-    omega (arith, c .before .before .before .before .before .loop-test .taken, b .pre .1 .1 .1 .0 .1)
+    omega (arith, c .before .before .before .before .before .loop-test .taken, b .pre .1 .1 .1 .1 .0 .1)
 
 loop-less : tie.Need-loop-less Inv-loop μ-loop
 loop-less c = omega (arith, c .before .before .before .before .before .loop-test .taken)

@@ -18,11 +18,11 @@ use Rattle.quantity.proofs.add_capacitance.Reads as add-capacitance-reads
 use Rattle.quantity.proofs.add_delay.Reads as add-delay-reads
 
 abbrev Inv-loop : tie.InvT-loop
-Inv-loop job counts weights upstream driven ups skips tables lower upper left start added x₀ gathered lean₀ wide₀ p rows weight before load top k₀ best₀ x lean wide k best =
+Inv-loop job counts weights upstream driven ups skips tables lower upper left start added x₀ gathered lean₀ wide₀ p rows length weight before load top k₀ best₀ x lean wide k best =
     Turning (netBy counts job) lower upper p x₀ (found (best₀ .0) lean₀ wide₀) x k (found (best .0) lean wide)
 
 abbrev μ-loop : tie.MeasureT-loop
-μ-loop job counts weights upstream driven ups skips tables lower upper left start added x₀ gathered lean₀ wide₀ p rows weight before load top k₀ best₀ x lean wide k best = suc top - k
+μ-loop job counts weights upstream driven ups skips tables lower upper left start added x₀ gathered lean₀ wide₀ p rows length weight before load top k₀ best₀ x lean wide k best = suc top - k
 
 sub-p : tie.Need-sub-p Inv-loop μ-loop
 sub-p c =
@@ -39,93 +39,98 @@ element-copy-out-rows c =
     let b = c .before .before .before .before .before .before in
     omega (arith, b .pre .1 .0 .few, b .pre .1 .1 .0 .0, b .pre .0 .checked .fewStages, b .pre .0 .checked .fewSegments)
 
+place-word-requires : tie.Need-place-word-requires Inv-loop μ-loop
+place-word-requires c κs =
+    let b = c .before .before .before .before .before .before .before in
+    (b .pre .0 .checked .held, (few (b .pre .0) (b .pre .1 .0) (b .args .least .0) (b .pre .1 .1 .0 .0) (b .pre .1 .1 .0 .1), omega arith))
+
 mul-weight : tie.Need-mul-weight Inv-loop μ-loop
 mul-weight c =
-    let b = c .before .before .before .before .before .before .before in
+    let b = c .before .before .before .before .before .before .before .before in
     omega (arith, b .pre .1 .0 .few, b .pre .1 .1 .0 .0, b .pre .0 .checked .fewStages, b .pre .0 .checked .fewSegments)
 
 element-copy-out-weight : tie.Need-element-copy-out-weight Inv-loop μ-loop
 element-copy-out-weight c =
-    let b = c .before .before .before .before .before .before .before in
-    omega (arith, b .pre .1 .0 .few, b .pre .1 .1 .0 .0, b .pre .0 .checked .fewStages, b .pre .0 .checked .fewSegments)
-
-mul-t33 : tie.Need-mul-t33 Inv-loop μ-loop
-mul-t33 c =
     let b = c .before .before .before .before .before .before .before .before in
     omega (arith, b .pre .1 .0 .few, b .pre .1 .1 .0 .0, b .pre .0 .checked .fewStages, b .pre .0 .checked .fewSegments)
 
-element-copy-out-t36 : tie.Need-element-copy-out-t36 Inv-loop μ-loop
-element-copy-out-t36 c =
-    let b = c .before .before .before .before .before .before .before .before in
-    omega (arith, b .pre .1 .0 .few, b .pre .1 .1 .0 .0, b .pre .0 .checked .fewStages, b .pre .0 .checked .fewSegments)
-
-mul-t30 : tie.Need-mul-t30 Inv-loop μ-loop
-mul-t30 c =
+mul-t34 : tie.Need-mul-t34 Inv-loop μ-loop
+mul-t34 c =
     let b = c .before .before .before .before .before .before .before .before .before in
     omega (arith, b .pre .1 .0 .few, b .pre .1 .1 .0 .0, b .pre .0 .checked .fewStages, b .pre .0 .checked .fewSegments)
 
-element-copy-out-t36-2 : tie.Need-element-copy-out-t36-2 Inv-loop μ-loop
-element-copy-out-t36-2 c =
+element-copy-out-t37 : tie.Need-element-copy-out-t37 Inv-loop μ-loop
+element-copy-out-t37 c =
     let b = c .before .before .before .before .before .before .before .before .before in
     omega (arith, b .pre .1 .0 .few, b .pre .1 .1 .0 .0, b .pre .0 .checked .fewStages, b .pre .0 .checked .fewSegments)
 
-add-t33 : tie.Need-add-t33 Inv-loop μ-loop
-add-t33 c =
+mul-t31 : tie.Need-mul-t31 Inv-loop μ-loop
+mul-t31 c =
     let b = c .before .before .before .before .before .before .before .before .before .before in
     omega (arith, b .pre .1 .0 .few, b .pre .1 .1 .0 .0, b .pre .0 .checked .fewStages, b .pre .0 .checked .fewSegments)
 
-mul-t42 : tie.Need-mul-t42 Inv-loop μ-loop
-mul-t42 c =
+element-copy-out-t37-2 : tie.Need-element-copy-out-t37-2 Inv-loop μ-loop
+element-copy-out-t37-2 c =
     let b = c .before .before .before .before .before .before .before .before .before .before in
     omega (arith, b .pre .1 .0 .few, b .pre .1 .1 .0 .0, b .pre .0 .checked .fewStages, b .pre .0 .checked .fewSegments)
 
-element-copy-out-t45 : tie.Need-element-copy-out-t45 Inv-loop μ-loop
-element-copy-out-t45 c =
-    let b = c .before .before .before .before .before .before .before .before .before .before in
+add-t34 : tie.Need-add-t34 Inv-loop μ-loop
+add-t34 c =
+    let b = c .before .before .before .before .before .before .before .before .before .before .before in
+    omega (arith, b .pre .1 .0 .few, b .pre .1 .1 .0 .0, b .pre .0 .checked .fewStages, b .pre .0 .checked .fewSegments)
+
+mul-t43 : tie.Need-mul-t43 Inv-loop μ-loop
+mul-t43 c =
+    let b = c .before .before .before .before .before .before .before .before .before .before .before in
+    omega (arith, b .pre .1 .0 .few, b .pre .1 .1 .0 .0, b .pre .0 .checked .fewStages, b .pre .0 .checked .fewSegments)
+
+element-copy-out-t46 : tie.Need-element-copy-out-t46 Inv-loop μ-loop
+element-copy-out-t46 c =
+    let b = c .before .before .before .before .before .before .before .before .before .before .before in
     omega (arith, b .pre .1 .0 .few, b .pre .1 .1 .0 .0, b .pre .0 .checked .fewStages, b .pre .0 .checked .fewSegments)
 
 add-capacitance-requires : tie.Need-add-capacitance-requires Inv-loop μ-loop
 add-capacitance-requires c κs =
-    let b = c .before .before .before .before .before .before .before .before .before .before .before in
+    let b = c .before .before .before .before .before .before .before .before .before .before .before .before in
     omega (arith, load-most (b .pre .0) (b .pre .1 .0) (b .args .least .0) (b .pre .1 .1 .0 .0) (b .pre .1 .1 .0 .1) _ refl)
 
 shared-slice-read-top : tie.Need-shared-slice-read-top Inv-loop μ-loop
 shared-slice-read-top c =
-    let b = c .before .before .before .before .before .before .before .before .before .before .before .before .before in
+    let b = c .before .before .before .before .before .before .before .before .before .before .before .before .before .before in
     omega (arith, b .pre .1 .0 .few, b .pre .1 .1 .0 .0, allowed-long (netBy (b .args .counts) (b .args .job .now)) (b .args .upper .now) (b .pre .0 .upperAllowed))
 
 loop-holds : tie.Need-loop-holds Inv-loop μ-loop
 loop-holds c =
-    let b = c .before .before .before .before .before .before .before .before .before .before .before .before .before in
+    let b = c .before .before .before .before .before .before .before .before .before .before .before .before .before .before in
     passed-to (b .pre .0) (b .pre .1 .0) (b .args .least .0) (b .pre .1 .1 .0 .0) (b .pre .1 .1 .0 .1) (b .pre .1 .1 .0 .2) (b .args .start) (b .pre .1 .1 .1 .0)
 
 step-requires : tie.Need-step-requires Inv-loop μ-loop
 step-requires c κs =
-    let b = c .before .before .before .before .before .before .before .before .before .before .before .before .before .before .before in
+    let b = c .before .before .before .before .before .before .before .before .before .before .before .before .before .before .before .before in
     let l = c .before .loop in
-    (b .pre .0 .checked, (b .pre .1 .1 .1 .1 .held (b .args .left - 1) (few (b .pre .0) (b .pre .1 .0) (b .args .least .0) (b .pre .1 .1 .0 .0) (b .pre .1 .1 .0 .1)), (few (b .pre .0) (b .pre .1 .0) (b .args .least .0) (b .pre .1 .1 .0 .0) (b .pre .1 .1 .0 .1), high (b .pre .0) (b .pre .1 .0) (b .args .least .0) (b .pre .1 .1 .0 .0) (b .pre .1 .1 .0 .1) (l .inv) (c .loop-test .taken), weight-most (b .pre .0) (b .pre .1 .0) (b .args .least .0) (b .pre .1 .1 .0 .0) (b .pre .1 .1 .0 .1), resistance-most (b .pre .0) (b .pre .1 .0) (b .args .least .0) (b .pre .1 .1 .0 .0) (b .pre .1 .1 .0 .1), load-most (b .pre .0) (b .pre .1 .0) (b .args .least .0) (b .pre .1 .1 .0 .0) (b .pre .1 .1 .0 .1) _ (c .before .before .before .add-capacitance .ensures .0))))
+    (b .pre .0 .checked, (b .pre .1 .1 .1 .1 .held (b .args .left - 1) (few (b .pre .0) (b .pre .1 .0) (b .args .least .0) (b .pre .1 .1 .0 .0) (b .pre .1 .1 .0 .1)), (c .before .before .before .before .before .before .before .before .place-word .ensures, (few (b .pre .0) (b .pre .1 .0) (b .args .least .0) (b .pre .1 .1 .0 .0) (b .pre .1 .1 .0 .1), high (b .pre .0) (b .pre .1 .0) (b .args .least .0) (b .pre .1 .1 .0 .0) (b .pre .1 .1 .0 .1) (l .inv) (c .loop-test .taken), weight-most (b .pre .0) (b .pre .1 .0) (b .args .least .0) (b .pre .1 .1 .0 .0) (b .pre .1 .1 .0 .1), resistance-most (b .pre .0) (b .pre .1 .0) (b .args .least .0) (b .pre .1 .1 .0 .0) (b .pre .1 .1 .0 .1), load-most (b .pre .0) (b .pre .1 .0) (b .args .least .0) (b .pre .1 .1 .0 .0) (b .pre .1 .1 .0 .1) _ (c .before .before .before .add-capacitance .ensures .0)))))
 
 add-delay-requires : tie.Need-add-delay-requires Inv-loop μ-loop
 add-delay-requires c κs =
-    let b = c .before .before .before .before .before .before .before .before .before .before .before .before .before .before .before .before in
+    let b = c .before .before .before .before .before .before .before .before .before .before .before .before .before .before .before .before .before in
     let l = c .before .before .loop in
     fits (b .pre .0) (b .pre .1 .0) (b .args .least .0) (b .pre .1 .1 .0 .0) (b .pre .1 .1 .0 .1) (l .inv) (c .before .loop-test .taken) _ (c .before .before .before .before .add-capacitance .ensures .0) (c .step .result) (c .step .ensures)
 
 add-k : tie.Need-add-k Inv-loop μ-loop
 add-k c =
-    let b = c .before .before .before .before .before .before .before .before .before .before .before .before .before .before .before .before .before in
+    let b = c .before .before .before .before .before .before .before .before .before .before .before .before .before .before .before .before .before .before in
     let l = c .before .before .before .loop in
     omega (arith, c .before .before .loop-test .taken, small (b .pre .0) (b .pre .1 .0) (b .args .least .0) (b .pre .1 .1 .0 .0) (b .pre .1 .1 .0 .1))
 
 slice-write-x : tie.Need-slice-write-x Inv-loop μ-loop
 slice-write-x c =
-    let b = c .before .before .before .before .before .before .before .before .before .before .before .before .before .before .before .before .before .before .before .before in
+    let b = c .before .before .before .before .before .before .before .before .before .before .before .before .before .before .before .before .before .before .before .before .before in
     let l = c .before .before .before .before .before .before .loop in
     omega (arith, b .pre .1 .0 .few, b .pre .1 .1 .0 .0, allowed-long (netBy (b .args .counts) (b .args .job .now)) (l .x) (l .inv .allowed))
 
 keep-requires : tie.Need-keep-requires Inv-loop μ-loop
 keep-requires c κs =
-    let b = c .before .before .before .before .before .before .before .before .before .before .before .before .before .before .before .before .before .before .before .before .before .before .before in
+    let b = c .before .before .before .before .before .before .before .before .before .before .before .before .before .before .before .before .before .before .before .before .before .before .before .before in
     let l = c .before .before .before .before .before .before .before .before .before .loop in
     let e = length-set (l .x) (b .args .left - 1) (l .k) ∙ allowed-long (netBy (b .args .counts) (b .args .job .now)) (l .x) (l .inv .allowed) in
     (e ∙ sym (l .inv .leanLong), e ∙ sym (l .inv .wideLong))
@@ -135,7 +140,7 @@ loop-less c = omega (arith, c .before .before .before .before .before .before .b
 
 loop-again : tie.Need-loop-again Inv-loop μ-loop
 loop-again c =
-    let b = c .before .before .before .before .before .before .before .before .before .before .before .before .before .before .before .before .before .before .before .before .before .before .before .before .before .before .before .before in
+    let b = c .before .before .before .before .before .before .before .before .before .before .before .before .before .before .before .before .before .before .before .before .before .before .before .before .before .before .before .before .before in
     let l = c .before .before .before .before .before .before .before .before .before .before .before .before .before .before .loop in
     let r = c .before .before .before .before .keep in
     taken (b .pre .0) (b .pre .1 .0) (b .args .least .0) (b .pre .1 .1 .0 .0) (b .pre .1 .1 .0 .1) (l .inv) (c .before .before .before .before .before .before .before .before .before .before .before .before .before .loop-test .taken) _ (c .before .before .before .before .before .before .before .before .before .before .before .before .before .before .before .before .add-capacitance .ensures .0) (c .before .before .before .before .before .before .before .before .before .before .before .before .step .result) (c .before .before .before .before .before .before .before .before .before .before .before .before .step .ensures) (b .pre .1 .1 .0 .2) (c .before .before .before .before .before .before .before .before .before .before .before .add-delay .result .0) (c .before .before .before .before .before .before .before .before .before .before .before .add-delay .ensures .0) _ (r .kept .1 .1 .1 .0) (r .kept .1 .1 .1 .1 .0) (r .ensures)
@@ -145,31 +150,31 @@ loop-less-2 c = omega (arith, c .before .before .before .before .before .loop-te
 
 loop-again-2 : tie.Need-loop-again-2 Inv-loop μ-loop
 loop-again-2 c =
-    let b = c .before .before .before .before .before .before .before .before .before .before .before .before .before .before .before .before .before .before .before .before in
+    let b = c .before .before .before .before .before .before .before .before .before .before .before .before .before .before .before .before .before .before .before .before .before in
     let l = c .before .before .before .before .before .before .loop in
     passed (b .pre .0) (b .pre .1 .0) (b .args .least .0) (b .pre .1 .1 .0 .0) (b .pre .1 .1 .0 .1) (l .inv) (c .before .before .before .before .before .loop-test .taken) _ (c .before .before .before .before .before .before .before .before .add-capacitance .ensures .0) (c .before .before .before .before .step .result) (c .before .before .before .before .step .ensures) (b .pre .1 .1 .0 .2) (c .before .before .before .add-delay .result .0) (c .before .before .before .add-delay .ensures .0) (omega (arith, c .if1 .left))
 
 same-length : tie.Need-same-length Inv-loop μ-loop
 same-length c =
-    let b = c .before .before .before .before .before .before .before .before .before .before .before .before .before .before .before in
+    let b = c .before .before .before .before .before .before .before .before .before .before .before .before .before .before .before .before in
     let l = c .before .loop in
     allowed-long (netBy (b .args .counts) (b .args .job .now)) (l .x) (l .inv .allowed) ∙ sym (allowed-long (netBy (b .args .counts) (b .args .job .now)) (b .args .x .now) (b .pre .1 .0 .allowed))
 
 same-length-2 : tie.Need-same-length-2 Inv-loop μ-loop
 same-length-2 c =
-    let b = c .before .before .before .before .before .before .before .before .before .before .before .before .before .before .before in
+    let b = c .before .before .before .before .before .before .before .before .before .before .before .before .before .before .before .before in
     let l = c .before .loop in
     l .inv .leanLong ∙ sym (b .pre .1 .0 .leanLong)
 
 same-length-3 : tie.Need-same-length-3 Inv-loop μ-loop
 same-length-3 c =
-    let b = c .before .before .before .before .before .before .before .before .before .before .before .before .before .before .before in
+    let b = c .before .before .before .before .before .before .before .before .before .before .before .before .before .before .before .before in
     let l = c .before .loop in
     l .inv .wideLong ∙ sym (b .pre .1 .0 .wideLong)
 
 returns : tie.Need-returns Inv-loop μ-loop
 returns c =
-    let b = c .before .before .before .before .before .before .before .before .before .before .before .before .before .before .before in
+    let b = c .before .before .before .before .before .before .before .before .before .before .before .before .before .before .before .before in
     let l = c .before .loop in
     ended (b .pre .0) (b .pre .1 .0) (b .args .least .0) (b .pre .1 .1 .0 .0) (b .pre .1 .1 .0 .1) (b .args .gathered .now) (l .inv) (c .loop-test .left) refl
 
@@ -182,15 +187,16 @@ take-from-spec =
     sub-p
     mul-rows
     element-copy-out-rows
+    place-word-requires
     mul-weight
     element-copy-out-weight
-    mul-t33
-    element-copy-out-t36
-    mul-t30
-    element-copy-out-t36-2
-    add-t33
-    mul-t42
-    element-copy-out-t45
+    mul-t34
+    element-copy-out-t37
+    mul-t31
+    element-copy-out-t37-2
+    add-t34
+    mul-t43
+    element-copy-out-t46
     add-capacitance-requires
     shared-slice-read-top
     loop-holds
