@@ -6,23 +6,26 @@
  * and what every figure and number means.
  *
  * Numbers. Each function but numlejka_choose returns 0 where it has answered, and otherwise the number of the first
- * question whose answer is no:
+ * question whose answer is no. They are asked in this order, so 24 comes after 2 and before 3:
  *
  *   number  question                                                                                  asked by
  *      0    (answered)
  *      1    Is the length above 0 and a multiple of 16?                                               all
  *      2    Is every kind 1 to 4, and does the kind never fall from one record to the next?           all
- *      3    Are there 1 to 8 widths, 1 to 16 sizes, 1 to 4 stages, 1 to 64 segments?                  all
- *      4    Do the numbers count from 0 in each kind?                                                 all
+ *     24    Is every layer byte 0 or 1, does the layer never fall from one width to the next, and
+ *           has layer 1 a width where a segment names it?                                             all
+ *      3    Are there 1 to 8 widths of layer 0 and at most 8 of layer 1, 1 to 16 sizes, 1 to 4
+ *           stages, 1 to 64 segments?                                                                 all
+ *      4    Do the numbers count from 0 in each kind, those of widths in each layer?                  all
  *      5    Are all unnamed bytes zero?                                                               all
  *      6    Are the values of widths and sizes in range?                                              all
- *      7    In each of the two tables, does resistance strictly fall, and do width capacitance and
- *           gate capacitance strictly rise?                                                           all
+ *      7    In each table, that of each layer and that of the sizes, does resistance strictly fall,
+ *           and do width capacitance and gate capacitance strictly rise?                              all
  *      8    Is every stage's lowest at most its highest, which is below the count of sizes, and
  *           are both equal for stage 0?                                                               all
  *      9    Is each parent byte at most the segment's own number?                                     all
  *     10    Are the segments' fields in range, capacitance and weight 0 where there is no sink, and
- *           lowest at most highest, which is below the count of widths?                               all
+ *           lowest at most highest, which is below the count of widths of the segment's layer?        all
  *     11    Has every segment without branches a sink?                                                all
  *     12    Does the reply buffer hold 8 * (1 + P) bytes?                                             size
  *     14    Is room at most 65,536?                                                                   size

@@ -87,7 +87,7 @@ fn refining_is_the_same_at_every_place() {
     }
 }
 
-/// What `measure` of the library and of (a) answers on so many copies of a job with one byte replaced.
+/// The answer of `measure`, by the library and (a), to so many copies of a job with one byte replaced.
 fn assert_same_numbers(random: &mut Random, job: &[u8], copies: usize, name: &str) {
     let (lower, _) = plain::bounds(job).expect("the job passes the questions");
     for _ in 0..copies {
@@ -115,7 +115,7 @@ fn numbers_are_the_same_on_damaged_jobs() {
     }
 }
 
-/// A layer 1 of other rows than layer 0, and of as many or more: whoever takes the other layer's gets another answer.
+/// A layer 1 of other rows than layer 0, and of as many or more, so that a row or a count of the wrong layer shows.
 #[test]
 fn all_are_the_same_where_the_layers_differ() {
     let mut random = Random(0xE703_7ED1_A0B4_28DB);

@@ -80,18 +80,19 @@ pub enum Reply {
     Refused(Refusal),
 }
 
-/// The questions, each with its number.
-const QUESTIONS: [(usize, &str); 16] = [
+/// The questions, each with its number, in the order in which they are asked.
+const QUESTIONS: [(usize, &str); 17] = [
     (1, "Is the length above 0 and a multiple of 16?"),
     (2, "Is every kind 1 to 4, and does the kind never fall from one record to the next?"),
-    (3, "Are there 1 to 8 widths, 1 to 16 sizes, 1 to 4 stages, 1 to 64 segments?"),
-    (4, "Do the numbers count from 0 in each kind?"),
+    (24, "Is every layer byte 0 or 1, does the layer never fall from one width to the next, and has layer 1 a width where a segment names it?"),
+    (3, "Are there 1 to 8 widths of layer 0 and at most 8 of layer 1, 1 to 16 sizes, 1 to 4 stages, 1 to 64 segments?"),
+    (4, "Do the numbers count from 0 in each kind, those of widths in each layer?"),
     (5, "Are all unnamed bytes zero?"),
     (6, "Are the values of kinds 1 and 2 in range?"),
-    (7, "In each of the two tables, does resistance strictly fall, and do width capacitance and gate capacitance strictly rise?"),
+    (7, "In each table, that of each layer and that of the sizes, does resistance strictly fall, and do width capacitance and gate capacitance strictly rise?"),
     (8, "Is every stage's lowest at most its highest, which is below the count of sizes, and are both equal for stage 0?"),
     (9, "Is each parent byte at most the segment's own number?"),
-    (10, "Are the segments' fields in range, capacitance and weight 0 where there is no sink, and lowest at most highest, which is below the count of widths?"),
+    (10, "Are the segments' fields in range, capacitance and weight 0 where there is no sink, and lowest at most highest, which is below the count of widths of the segment's layer?"),
     (11, "Has every segment without branches a sink?"),
     (12, "Does the reply buffer hold 8 * (1 + P) bytes?"),
     (14, "Is room at most 65,536?"),

@@ -1,3 +1,4 @@
+pub mod Layered
 pub mod Sum
 pub mod Forest
 pub mod Branches

@@ -14,9 +14,9 @@ use Rattle.lattice.specs.Lists.{every}
 use Rattle.net.specs.declared.Counts.{Counts}
 use Rattle.net.specs.Job.{byte, records, widthAt, widthLayer, widthsOf, firstRow, segmentAt, segmentSink, segmentLength, sinkCapacitance, segmentLayer}
 use Rattle.net.specs.Questions.{inRange, question1, question2, question24, question3, question4, zeros, sinkOrZero, question5, question6, question7, question8, question9, question10}
-use Rattle.runs.specs.Records.{byteOf, byteInOrder, numberInOrder, zeroBytes, byteWithin, wordWithin, wordBelow, rangeWithin, segmentFits, parentInOrder}
+use Rattle.runs.specs.Records.{byteOf, byteInOrder, numberInOrder, zeroBytes, byteWithin, wordWithin, rowsInOrder, rangeWithin, segmentFits, parentInOrder}
 use Rattle.net.proofs.Records.{layer-0, layer-1}
-use Rattle.questions.specs.Check.{topLayer, tableInOrder}
+use Rattle.questions.specs.Check.{topLayer}
 use Rattle.questions.proofs.Zeros.{zero-word, zero-words}
 use Rattle.lattice.proofs.Every.{every-and, every-same}
 
@@ -42,14 +42,6 @@ module _ (b : List ℕ) where
   question2-by n m e f =
       both (rw m at e ∙ every-same _ _ _ (λ k h. rw (add-zero (16 * (0 + k)), zero-add k)))
       (rw m at f ∙ every-same _ _ _ (λ k h. rw (add-one k, zero-add k, zero-add (suc k), add-zero (16 * k), add-zero (16 * suc k))))
-
-  pub table-empty : (start n : ℕ) → n ≡ 0 → true ≡ every (n - 1) (tableInOrder b start)
-  unfolding every
-  table-empty start n e = rw e refl
-
-  pub table-by : (start n : ℕ) {p q : Bool} → p ≡ every (n - 1) (wordBelow b (start + 1) start 4) → q ≡ every (n - 1) (wordBelow b start (start + 1) 8)
-      → p && q ≡ every (n - 1) (tableInOrder b start)
-  table-by start n d e = two _ _ _ d e ∙ every-same _ _ _ (λ k l. let m : start + 1 + k ≡ start + suc k = omega arith in rw m)
 
 -- Layer 1 has widths exactly where those of layer 0 are not all.
 module _ (c : Counts) where
@@ -128,11 +120,13 @@ module _ (c : Counts) (b : List ℕ) where
   unfolding question6
   question6-by d e f g h = both (two _ _ _ d e ∙ every-same _ _ _ (λ k l. rw (zero-add k))) (two _ _ _ f (two _ _ _ g h))
 
-  pub question7-by : {p q r : Bool} → p ≡ every (c .layer0 - 1) (tableInOrder b 0) → q ≡ every (c .widths - c .layer0 - 1) (tableInOrder b (c .layer0))
-      → r ≡ every (c .sizes - 1) (tableInOrder b (c .widths)) → p && q && r ≡ question7 c b
+  pub question7-by : {p q r : Bool} → p ≡ every (c .layer0 - 1) (rowsInOrder b 0) → q ≡ every (c .widths - c .layer0 - 1) (rowsInOrder b (c .layer0))
+      → r ≡ every (c .sizes - 1) (rowsInOrder b (c .widths)) → p && q && r ≡ question7 c b
   unfolding question7
   question7-by {p} {q} d e f =
-      both (both-layers (λ l. every (widthsOf c l - 1) (tableInOrder b (firstRow c l))) p q (rw (layer-0 c .0, layer-0 c .1) d) (rw (others c, layer-1 c 1 (λ z. omega (arith, z)) .1) e)) f
+      both (both-layers (λ l. every (widthsOf c l - 1) (rowsInOrder b (firstRow c l))) p q (rw (layer-0 c .0, layer-0 c .1) d) (rw (others c, layer-1 c 1 (λ z. omega (arith, z)) .1) e)
+      ∙ every-same 2 _ _ (λ l m. every-same _ _ _ (λ k n. rw (add-one k))))
+      (f ∙ every-same _ _ _ (λ k n. rw (add-one k)))
 
   pub question8-by : {p : Bool} {l h : ℕ} → p ≡ every (c .stages) (rangeWithin b (c .widths + c .sizes) 2 (c .sizes))
       → l ≡ byteOf b (c .widths + c .sizes) 2 0 → h ≡ byteOf b (c .widths + c .sizes) 3 0 → p && eqb l h ≡ question8 c b

@@ -1,12 +1,12 @@
 -- What the contracts of `check` and of its parts say.
 use mathlib.Core.Path.{_≡_}
-use mathlib.Core.Bool.{Bool, true, cond, _&&_}
+use mathlib.Core.Bool.{true, cond}
 use mathlib.Core.List.{List, [], _∷_}
-use Prim.Native.Nat.{ℕ, suc, _+_, _*_, _≤_, _<_}
+use Prim.Native.Nat.{ℕ, _*_, _≤_, _<_}
 use lib.Dec.{ltb}
 use lib.ListN.{length, getD}
 use Rattle.net.specs.declared.Counts.{Counts}
-use Rattle.net.specs.Job.{records, countsOf, widthsOf, rowResistance, rowCapacitance}
+use Rattle.net.specs.Job.{records, countsOf, widthsOf}
 use Rattle.net.specs.Net.{Net, netBy}
 use Rattle.net.specs.Questions.{question1, question24, question3, question4, question5, question6, question7, question8, question9, question10, question11, Question, ask, refusal}
 use Rattle.net.specs.Checked.{Held, Checked}
@@ -46,11 +46,6 @@ questionsFrom24 c b = ask 24 (question24 c b) ∷ ask 3 (question3 c) ∷ ask 4 
 -- The highest layer that has widths.
 abbrev pub topLayer : Counts → ℕ
 topLayer c = cond (ltb 0 (widthsOf c 1)) 1 0
-
--- Does record k of the table that starts at the record `start` have a larger resistance and a smaller capacitance than the next? Widths and driver
--- sizes have them at the same offsets: a driver size has its gate's.
-abbrev pub tableInOrder : List ℕ → ℕ → ℕ → Bool
-tableInOrder b start k = ltb (rowResistance b (start + suc k)) (rowResistance b (start + k)) && ltb (rowCapacitance b (start + k)) (rowCapacitance b (start + suc k))
 
 -- The records that are counted are there, and at least one stage.
 pub record Counted (c : Counts) (b : List ℕ) : Type 0 where

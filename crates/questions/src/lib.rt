@@ -2,15 +2,13 @@
 // through it.
 use net::Counts;
 ghost use mathlib.Core.Path.{_≡_};
-ghost use Prim.Native.Nat.{_-_, _<_, _≤_};
+ghost use Prim.Native.Nat.{_<_, _≤_};
 ghost use lib.ListN.{length};
-ghost use Rattle.lattice.specs.Lists.{every};
 ghost use Rattle.net.specs.Job.{records};
 ghost use Rattle.net.specs.Net.{netBy};
 ghost use Rattle.net.specs.Questions.{question1, question2, question24, question3, question4, question5, question6, question7, question8, question9, question10, question11, firstNo};
 ghost use Rattle.net.specs.Checked.{Held};
-ghost use Rattle.runs.specs.Records.{HasRun};
-ghost use Rattle.questions.specs.Check.{CheckOf, Asked, topLayer, tableInOrder, questionsFrom7, questionsFrom24, Counted, Firsts};
+ghost use Rattle.questions.specs.Check.{CheckOf, Asked, topLayer, questionsFrom7, questionsFrom24, Counted, Firsts};
 
 // The number of the first question that a job fails, 0 where it passes all; the count of its records; and, where it passes all, their counts by
 // kind.
@@ -118,28 +116,15 @@ fn question6(job: &[u8], counts: Counts) -> bool
     (resistances & capacitances) & (drivers & (gates & outputs))
 }
 
-// Does resistance strictly fall and capacitance strictly rise along the table of `count` records from `start` on?
-fn table_in_order(job: &[u8], start: usize, count: usize) -> bool
-    requires { ⌜ HasRun (now job) start count ⌝ }
-    ensures { λ r. ⌜ r ≡ every (count - 1) (tableInOrder (now (job .entry)) start) ⌝ }
-{
-    if count == 0 {
-        return true;
-    }
-    let falls = runs::words_below(job, start + 1, start, count - 1, 4);
-    let rises = runs::words_below(job, start, start + 1, count - 1, 8);
-    falls & rises
-}
-
 // Question 7: in each table, that of each layer and that of the driver sizes, does resistance strictly fall, and do width capacitance and gate
 // capacitance strictly rise?
 fn question7(job: &[u8], counts: Counts) -> bool
     requires { ⌜ Held counts (now job) ⌝ }
     ensures { λ r. ⌜ r ≡ question7 counts (now (job .entry)) ⌝ }
 {
-    let first = table_in_order(job, 0, counts.layer0);
-    let second = table_in_order(job, counts.layer0, counts.widths - counts.layer0);
-    let sizes = table_in_order(job, counts.widths, counts.sizes);
+    let first = runs::table_in_order(job, 0, counts.layer0);
+    let second = runs::table_in_order(job, counts.layer0, counts.widths - counts.layer0);
+    let sizes = runs::table_in_order(job, counts.widths, counts.sizes);
     (first & second) & sizes
 }
 

@@ -45,9 +45,9 @@ module _ (b : List ℕ) where
   abbrev pub wordWithin : ℕ → ℕ → ℕ → ℕ → ℕ → Bool
   wordWithin start at l h k = inRange l h (wordOf start at k)
 
-  -- Is the word at `at` in the run from `low` on below that in the run from `high` on?
-  abbrev pub wordBelow : ℕ → ℕ → ℕ → ℕ → Bool
-  wordBelow low high at k = ltb (wordOf low at k) (wordOf high at k)
+  -- Has record k of a table a larger resistance and a smaller capacitance than the next?
+  abbrev pub rowsInOrder : ℕ → ℕ → Bool
+  rowsInOrder start k = ltb (wordOf start 4 (k + 1)) (wordOf start 4 k) && ltb (wordOf start 8 k) (wordOf start 8 (k + 1))
 
   -- Is the byte at `at` at most the next one, and that one below n?
   abbrev pub rangeWithin : ℕ → ℕ → ℕ → ℕ → Bool

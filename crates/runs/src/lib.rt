@@ -6,7 +6,7 @@ ghost use Prim.Native.Nat.{_+_, _*_, _-_, _<_, _≤_};
 ghost use lib.ListN.{length};
 ghost use Rattle.lattice.specs.Lists.{every};
 ghost use Rattle.runs.specs.Kinds.{Kinds, UpTo, Ends};
-ghost use Rattle.runs.specs.Records.{byteOf, wordOf, byteInOrder, numberInOrder, zeroFrom, zeroBytes, byteWithin, wordWithin, wordBelow, rangeWithin, segmentFits, parentInOrder, sinkOrBranch, layer0In, countsTo, HasRun};
+ghost use Rattle.runs.specs.Records.{byteOf, wordOf, byteInOrder, numberInOrder, zeroFrom, zeroBytes, byteWithin, wordWithin, rowsInOrder, rangeWithin, segmentFits, parentInOrder, sinkOrBranch, layer0In, countsTo, HasRun};
 
 // The byte at `at` of the record k after `start`.
 pub fn byte_of(job: &[u8], start: usize, at: usize, k: usize) -> usize
@@ -130,18 +130,23 @@ pub fn words_within(
     true
 }
 
-// Is the word at `at` in each record of the run from `low` on below that in the run from `high` on?
-pub fn words_below(job: &[u8], low: usize, high: usize, count: usize, at: usize) -> bool
-    requires { ⌜ HasRun (now job) low count × HasRun (now job) high count × (at ≤ 12) ⌝ }
-    ensures { λ r. ⌜ r ≡ every count (wordBelow (now (job .entry)) low high at) ⌝ }
+// Does resistance strictly fall and capacitance strictly rise along a table? Widths and driver sizes have them at the same offsets: a driver size
+// has its gate's.
+pub fn table_in_order(job: &[u8], start: usize, count: usize) -> bool
+    requires { ⌜ HasRun (now job) start count ⌝ }
+    ensures { λ r. ⌜ r ≡ every (count - 1) (rowsInOrder (now (job .entry)) start) ⌝ }
 {
-    for k in 0..count {
-        let below = word_of(job, low, at, k);
-        let above = word_of(job, high, at, k);
-        let passed = below < above;
+    let mut k = 0;
+    while k + 1 < count {
+        let resistance = word_of(job, start, 4, k);
+        let capacitance = word_of(job, start, 8, k);
+        let next_resistance = word_of(job, start, 4, k + 1);
+        let next_capacitance = word_of(job, start, 8, k + 1);
+        let passed = (next_resistance < resistance) & (capacitance < next_capacitance);
         if !passed {
             return false;
         }
+        k += 1;
     }
     true
 }
