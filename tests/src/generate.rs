@@ -263,8 +263,8 @@ pub fn nearly_tied_plan(random: &mut Random, most: u128) -> Plan {
 
 /// Gives a plan a second layer, with the rows of the first or with its own, and puts some of its segments on it, all or none.
 fn add_layer(random: &mut Random, plan: &mut Plan) {
-    let own = random.once_in(3);
-    plan.thick = if own {
+    let same = random.once_in(3);
+    plan.thick = if same {
         plan.widths.clone()
     } else {
         let count = random.pick(&[1, 2, 2, 3, 4, 8]);
@@ -274,7 +274,7 @@ fn add_layer(random: &mut Random, plan: &mut Plan) {
     for segment in 0..plan.segments.len() {
         if random.once_in(one_in) {
             plan.segments[segment].layer = 1;
-            if !own {
+            if !same {
                 let range = range(random, plan.thick.len());
                 plan.set_range(plan.stages.len() + segment, range);
             }

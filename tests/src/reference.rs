@@ -281,7 +281,7 @@ fn sizing_refusal(net: &Net, sizings: &[&[u8]]) -> u64 {
     if sizings.iter().all(fits) { 0 } else { 16 }
 }
 
-/// The net of a job with allowed sizings, or the first number of 1 to 11, 15 and 16 that refuses.
+/// The net of a job with allowed sizings, or the first number of the job's questions, 15 and 16 that refuses.
 fn read_with_sizings(job: &[u8], sizings: &[&[u8]]) -> Result<Net, u64> {
     let net = read(job)?;
     match sizing_refusal(&net, sizings) {

@@ -226,6 +226,8 @@ fn refusals() {
     bad[3] = 1;
     bad[4] = 0;
     assert_eq!(size(&bad), refused(5));
+    bad[2] = 2;
+    assert_eq!(size(&bad), refused(24));
     assert_eq!(measure(&j1(), &[0]).unwrap_err().number, 15);
     assert_eq!(measure(&j1(), &[0, 2]).unwrap_err().number, 16);
     assert_eq!(refine(&j1(), &[0], 0).unwrap_err().number, 15);
@@ -247,6 +249,7 @@ fn a_refusal_tells_its_question() {
     );
     assert_eq!(question(14), "Is room at most 65,536?");
     assert_eq!(question(17), "Is the place below P?");
+    assert!(question(24).starts_with("Is every layer byte 0 or 1"));
 }
 
 #[test]

@@ -48,24 +48,25 @@ module _ (job : List ℕ) (n : ℕ) where
       go (yes e) = job-passes job own e ∙ rw (question13-passes e) (sym (size-passes job n e))
       go (no z) = job-fails job own z ∙ sym (size-fails job n z)
 
--- Question 5 as it was while it forbade what question 10 forbids too: a capacitance or a weight where there is no sink.
+-- Question 5 with the clause that it once had, which question 10 has too: no capacitance and no weight where there is no sink. The unnamed bytes are
+-- those of today.
 module _ (c : Counts) (b : List ℕ) where
-  -- The former 5. Are all unnamed bytes zero, and the sink capacitance and weight of every segment whose sink byte is 0?
-  unfoldable pub formerQuestion5 : Bool
-  formerQuestion5 =
+  -- 5, with the clause. Are all unnamed bytes zero, and the sink capacitance and weight of every segment whose sink byte is 0?
+  unfoldable pub question5WithClause : Bool
+  question5WithClause =
       every (c .widths) (λ k. zeros c b (widthAt k + 3) 1 && zeros c b (widthAt k + 12) 4)
       && (every (c .sizes) (λ k. zeros c b (sizeAt c k + 2) 2)
       && (every (c .stages) (λ s. zeros c b (stageAt c s + 4) 12)
       && every (c .segments) (sinkOrZero c b)))
 
   -- it is question 5 and the clause
-  clause : formerQuestion5 ≡ question5 c b && every (c .segments) (sinkOrZero c b)
-  unfolding formerQuestion5 question5
+  clause : question5WithClause ≡ question5 c b && every (c .segments) (sinkOrZero c b)
+  unfolding question5WithClause question5
   clause = rw (and-assoc, and-assoc)
 
--- The questions of a job as they were: the former question 5 in the place of question 5, the sixth.
+-- The questions of a job with the clause: that question in the place of question 5, the sixth.
 unfoldable pub formerJobQuestions : List ℕ → List Question
-formerJobQuestions b = set (jobQuestions b) 5 (ask 5 (formerQuestion5 (countsOf b) b))
+formerJobQuestions b = set (jobQuestions b) 5 (ask 5 (question5WithClause (countsOf b) b))
 
 -- A capacitance or a weight at a segment whose sink byte is 0.
 pub record StraySink (c : Counts) (b : List ℕ) : Type 0 where
@@ -97,7 +98,7 @@ unfolding every countIf countsOf widthsOf firstRow question1 question2 question2
 are-6-to-10 = refl
 
 pub all-were-5 : map (λ job. firstNo (formerJobQuestions job)) strayJobs ≡ 5 ∷ 5 ∷ 5 ∷ 5 ∷ 5 ∷ []
-unfolding every countIf countsOf widthsOf firstRow question1 question2 question24 question3 question4 zeros sinkOrZero formerQuestion5 firstNo jobQuestions formerJobQuestions littleEndian
+unfolding every countIf countsOf widthsOf firstRow question1 question2 question24 question3 question4 zeros sinkOrZero question5WithClause firstNo jobQuestions formerJobQuestions littleEndian
 all-were-5 = refl
 
 module _ {c : Counts} {b : List ℕ} where
@@ -167,7 +168,7 @@ module _ (job : List ℕ) where
     -- A job that failed the former question 5 for this alone was refused with 5.
     pub was-5 : StraySinkAlone job → firstNo (formerJobQuestions job ++ own) ≡ 5
     unfolding formerJobQuestions jobQuestions
-    was-5 a = past-4 a _ ∙ firstNo-no 5 _ (formerQuestion5 c job) (rw (clause c job, clause-fails (a .stray)) (and-false (question5 c job)))
+    was-5 a = past-4 a _ ∙ firstNo-no 5 _ (question5WithClause c job) (rw (clause c job, clause-fails (a .stray)) (and-false (question5 c job)))
 
     -- It is now refused with the first of 6 to 9 that it fails, or else with 10.
     pub is-6-to-10 : StraySinkAlone job → firstNo (jobQuestions job ++ own) ≡ sixToNineOr10

@@ -1,21 +1,23 @@
 -- The questions and the net as they were while a job had one layer, each named as the former one: a job whose layer bytes are all 0 gets the
 -- number that it got, and has the net that it had. None of the former ones is a definition of the library.
-use mathlib.Core.Path.{_≡_, _∙_, refl, ap₂}
-use mathlib.Core.Bool.{Bool, true, false, not, _&&_, _||_, and-true}
+use mathlib.Core.Path.{_≡_, _∙_, refl, ap, ap₂, fun-ext}
+use mathlib.Core.Bool.{Bool, true, false, not, cond, _&&_, _||_, and-true}
 use mathlib.Core.List.{List, [], _∷_, _++_}
 use Prim.Native.Nat.{ℕ, zero, suc, _+_, _*_, _-_, _≤_, _<_}
 use native.Mathlib.Nat.{zero-add}
+use native.Mathlib.Decide.{decLe}
 use native.Mathlib.Omega.{arith}
 use borrow.Author.Tests.{eq-eqb}
 use lib.Dec.{T, leb, ltb, eqb, leb→le, eqb→eq}
+use lib.ListN.{length}
 use Rattle.lattice.specs.Lists.{every}
 use Rattle.lattice.proofs.ListLaws.{is-true, and-T, every-at, at-every}
 use Rattle.lattice.proofs.Every.{every-same}
 use Rattle.net.specs.declared.Counts.{Counts}
-use Rattle.net.specs.Job.{byte, records, kind, countIf, count, countsOf, widthAt, widthLayer, widthsOf, firstRow, sizeAt, stageAt, segmentAt, rowResistance, rowCapacitance, sizeResistance, sizeGate, segmentSink, segmentLength, sinkCapacitance, sinkWeight, segmentLowest, segmentHighest, segmentLayer}
-use Rattle.net.specs.Net.{Net, netBy, netOf}
+use Rattle.net.specs.Job.{byte, records, kind, countIf, count, countsOf, widthAt, widthLayer, widthsOf, firstRow, sizeAt, stageAt, segmentAt, placeAt, rowResistance, rowCapacitance, sizeResistance, sizeGate, sizeOutput, segmentParent, segmentSink, segmentLength, sinkCapacitance, sinkWeight, segmentLowest, segmentHighest, segmentLayer}
+use Rattle.net.specs.Net.{Net, netOf}
 use Rattle.net.specs.Questions.{inRange, question1, question2, question24, question3, question4, zeros, question5, question6, question7, question8, question9, sinkOrZero, question10, question11, Question, ask, firstNo, jobQuestions}
-use Rattle.net.proofs.Records.{never-falls, counts-each, counts-alike, counts-grow, layer-0, layer-1}
+use Rattle.net.proofs.Records.{never-falls, counts-each, counts-alike, counts-grow, counts-fill, layer-0, layer-1}
 use Rattle.net.proofs.Questions.{in-range}
 
 -- The former 3. Is each kind's count in its range?
@@ -61,18 +63,18 @@ module _ (c : Counts) (b : List ℕ) where
   abbrev pub formerNet : Net
   formerNet =
       record {
-        stages = netBy c b .stages;
-        segments = netBy c b .segments;
-        lowest = netBy c b .lowest;
-        highest = netBy c b .highest;
-        driverResistance = netBy c b .driverResistance;
-        gate = netBy c b .gate;
-        output = netBy c b .output;
+        stages = c .stages;
+        segments = c .segments;
+        lowest = λ p. cond (ltb p (c .stages)) (byte b (placeAt c p + 2)) (byte b (placeAt c p + 13));
+        highest = λ p. cond (ltb p (c .stages)) (byte b (placeAt c p + 3)) (byte b (placeAt c p + 14));
+        driverResistance = sizeResistance c b;
+        gate = sizeGate c b;
+        output = sizeOutput c b;
         wireResistance = λ i k. rowResistance b k * segmentLength c b i;
         wireCapacitance = λ i k. rowCapacitance b k * segmentLength c b i;
-        parent = netBy c b .parent;
-        sink = netBy c b .sink;
-        weight = netBy c b .weight;
+        parent = segmentParent c b;
+        sink = sinkCapacitance c b;
+        weight = sinkWeight c b;
       }
 
 -- The former questions of a job.
@@ -197,23 +199,81 @@ module _ (b : List ℕ) (z : LayersZero (countsOf b) b) (two : T (question2 b)) 
   unfolding countsOf
   one-layer = counts-alike _ _ (records b) width-of-0
 
--- one question more that is passed, and the others alike, wherever the first two are passed
-same-first : (p q t : Bool) (xs ys : List Question) → (T p → T q → (t ≡ true) × (xs ≡ ys))
-    → firstNo (ask 1 p ∷ ask 2 q ∷ ask 24 t ∷ xs) ≡ firstNo (ask 1 p ∷ ask 2 q ∷ ys)
-unfolding firstNo
-same-first false q t xs ys h = refl
-same-first true false t xs ys h = refl
-same-first true true t xs ys h = let a = h tt tt in rw (a .0, a .1)
+-- A byte past the end of a job is 0.
+past-end : (b : List ℕ) (at : ℕ) → length b ≤ at → byte b at ≡ 0
+past-end [] at h = refl
+past-end (x ∷ b) zero h = absurd (omega (arith, h))
+past-end (x ∷ b) (suc at) h = past-end b at (omega (arith, h))
 
--- A job whose layer bytes are all 0: an operation asks the job's questions and then its own, whichever these are, and gets the number that it got.
-pub numbers-as-before : (b : List ℕ) (own : List Question) → LayersZero (countsOf b) b → firstNo (jobQuestions b ++ own) ≡ firstNo (formerQuestions b ++ own)
+-- Where questions 1 and 2 pass, the records that are counted fill the job, so that the layer byte of a segment that there is not is 0 too.
+module _ (b : List ℕ) (z : LayersZero (countsOf b) b) (one : T (question1 b)) (two : T (question2 b)) where
+  every-layer : (i : ℕ) → segmentLayer (countsOf b) b i ≡ 0
+  every-layer i = go (decLe (suc i) (countsOf b .segments))
+    where
+      go : Dec (suc i ≤ countsOf b .segments) → segmentLayer (countsOf b) b i ≡ 0
+      go (yes h) = z .segments i h
+      go (no h) = past-end b (segmentAt (countsOf b) i + 15) (omega (arith, h, counts-fill b (is-true (question1 b) one) (is-true (question2 b) two)))
+
+  -- a row of a segment's layer is that of the one table
+  same-row : (f : ℕ → ℕ) (i k : ℕ) → f (firstRow (countsOf b) (segmentLayer (countsOf b) b i) + k) ≡ f k
+  same-row f i k = rw (every-layer i, layer-0 (countsOf b) .1, zero-add k)
+
+  -- The net is the former one.
+  pub net-as-before : netOf b ≡ formerNet (countsOf b) b
+  net-as-before =
+      ap₂ with-wires
+      (fun-ext (λ i. fun-ext (λ k. ap (λ (r : ℕ). r * segmentLength (countsOf b) b i) (same-row (rowResistance b) i k))))
+      (fun-ext (λ i. fun-ext (λ k. ap (λ (r : ℕ). r * segmentLength (countsOf b) b i) (same-row (rowCapacitance b) i k))))
+    where
+      with-wires : (ℕ → ℕ → ℕ) → (ℕ → ℕ → ℕ) → Net
+      with-wires r c =
+          record {
+            stages = formerNet (countsOf b) b .stages;
+            segments = formerNet (countsOf b) b .segments;
+            lowest = formerNet (countsOf b) b .lowest;
+            highest = formerNet (countsOf b) b .highest;
+            driverResistance = formerNet (countsOf b) b .driverResistance;
+            gate = formerNet (countsOf b) b .gate;
+            output = formerNet (countsOf b) b .output;
+            wireResistance = r;
+            wireCapacitance = c;
+            parent = formerNet (countsOf b) b .parent;
+            sink = formerNet (countsOf b) b .sink;
+            weight = formerNet (countsOf b) b .weight;
+          }
+
+-- one question more that is passed, and the others alike, wherever the first two are passed
+same-first : (p q t : Bool) (xs ys vs ws : List Question) → (T p → T q → (t ≡ true) × (xs ≡ ys) × (vs ≡ ws))
+    → firstNo (ask 1 p ∷ ask 2 q ∷ ask 24 t ∷ (xs ++ vs)) ≡ firstNo (ask 1 p ∷ ask 2 q ∷ (ys ++ ws))
+unfolding firstNo
+same-first false q t xs ys vs ws h = refl
+same-first true false t xs ys vs ws h = refl
+same-first true true t xs ys vs ws h = let a = h tt tt in rw (a .0, a .1, a .2)
+
+-- The questions from 3 on, by those of 3, 4, 5, 7 and 10.
+abbrev fromThree : List ℕ → (three four five seven ten : Bool) → List Question
+fromThree b three four five seven ten =
+    let c : Counts = countsOf b in
+    ask 3 three
+    ∷ ask 4 four
+    ∷ ask 5 five
+    ∷ ask 6 (question6 c b)
+    ∷ ask 7 seven
+    ∷ ask 8 (question8 c b)
+    ∷ ask 9 (question9 c b)
+    ∷ ask 10 ten
+    ∷ ask 11 (question11 c b)
+    ∷ []
+
+-- A job whose layer bytes are all 0: an operation asks the job's questions and then its own of the net, whichever these are, and gets the number
+-- that it got with the former questions and the former net.
+pub numbers-as-before : (b : List ℕ) (own : Net → List Question) → LayersZero (countsOf b) b
+    → firstNo (jobQuestions b ++ own (netOf b)) ≡ firstNo (formerQuestions b ++ own (formerNet (countsOf b) b))
 unfolding jobQuestions formerQuestions
 numbers-as-before b own z =
-    same-first (question1 b) (question2 b) (question24 (countsOf b) b) _ _
-    (λ p q. let e = one-layer b z q in (same-24 z e, rw (same-3 z e, same-4 z e, same-5 z e, same-7 z e, same-10 z e)))
-
--- Its net is the former one: the counts, the ranges, the drivers, the tree and its sinks by definition, and each segment's wire at each width.
-pub wires-as-before : (b : List ℕ) → LayersZero (countsOf b) b → (i k : ℕ) → i < countsOf b .segments
-    → (netOf b .wireResistance i k ≡ formerNet (countsOf b) b .wireResistance i k)
-    × (netOf b .wireCapacitance i k ≡ formerNet (countsOf b) b .wireCapacitance i k)
-wires-as-before b z i k h = (rw (z .segments i h, layer-0 (countsOf b) .1, zero-add k), rw (z .segments i h, layer-0 (countsOf b) .1, zero-add k))
+    let c : Counts = countsOf b in
+    same-first (question1 b) (question2 b) (question24 c b)
+    (fromThree b (question3 c) (question4 c b) (question5 c b) (question7 c b) (question10 c b))
+    (fromThree b (formerQuestion3 c) (formerQuestion4 c b) (formerQuestion5 c b) (formerQuestion7 c b) (formerQuestion10 c b))
+    (own (netOf b)) (own (formerNet c b))
+    (λ p q. let e = one-layer b z q in (same-24 z e, rw (same-3 z e, same-4 z e, same-5 z e, same-7 z e, same-10 z e), ap own (net-as-before b z p q)))

@@ -406,7 +406,7 @@ pub fn between(
     // counts of places
     let mut skips = [0usize; 69];
     skip(job, counts, lower, upper, &mut skips);
-    // records, by place
+    // where the tables of the layers start, by place
     let mut tables = [0usize; 68];
     find_tables(job, counts, &mut tables);
     start(
