@@ -28,7 +28,8 @@ pub const TIE_AT_0: &str = "refine with a tie at 0";
 /// stage's alone, or with the gates twice is another one.
 pub const OUTPUTS: &str = "measure with an output of stage 0, not the last";
 
-/// A call on a job that passes 1, 2, 24, 3 and 4 and has its unnamed bytes zero, but a capacitance or a weight where there is no sink.
+/// A call on a job that passes 1, 2, 24, 3 and 4 and has its unnamed bytes zero, but a capacitance or a weight where there is no
+/// sink.
 pub const STRAY_SINK: &str = "a stray sink alone";
 
 /// A call that is refused with 24 for one of its four ways alone: a width's layer byte, a segment's layer byte, layers that fall,

@@ -15,7 +15,8 @@ pub struct PlannedSegment {
     pub layer: u8,
 }
 
-/// A job's fields: widths of layer 0 and, called thick, of layer 1 as resistance and capacitance, sizes as resistance, gate and output, stages as lowest and highest.
+/// A job's fields: widths of layer 0 and, called thick, of layer 1 as resistance and capacitance, sizes as resistance, gate and
+/// output, stages as lowest and highest.
 #[derive(Clone, Debug, Default)]
 pub struct Plan {
     pub widths: Vec<[u32; 2]>,

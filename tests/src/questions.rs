@@ -174,7 +174,8 @@ fn question_6(job: &[u8]) -> bool {
     of_kind(job, 1).iter().all(width_fits) && of_kind(job, 2).iter().all(size_fits)
 }
 
-/// Question 7: in each table, of a layer or of the sizes, does resistance strictly fall and the capacitance of width or gate strictly rise?
+/// Question 7: in each table, of a layer or of the sizes, does resistance strictly fall and the capacitance of width or gate
+/// strictly rise?
 fn question_7(job: &[u8]) -> bool {
     let ordered = |pair: &[&[u8]]| number(pair[0], 4) > number(pair[1], 4) && number(pair[0], 8) < number(pair[1], 8);
     [of_layer(job, 0), of_layer(job, 1), of_kind(job, 2)]

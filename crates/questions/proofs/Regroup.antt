@@ -37,11 +37,12 @@ module _ (b : List ℕ) where
       go (yes z) = rw (eq-eqb (16 * n) (length b) (omega (arith, div-add-mod' (length b) 16)), eq-eqb (_%_ (length b) 16) 0 z)
       go (no z) = rw (ne-eqb (16 * n) (length b) (λ f. z (omega (arith, div-add-mod' (length b) 16))), ne-eqb (_%_ (length b) 16) 0 z)
 
-  pub question2-by : (n : ℕ) {p q : Bool} → n ≡ records b → p ≡ every n (byteWithin b 0 0 1 4) → q ≡ every (n - 1) (byteInOrder b 0) → p && q ≡ question2 b
+  pub question2-by : (n : ℕ) {p : Bool} → n ≡ records b → p ≡ every n (byteWithin b 0 0 1 4) && every (n - 1) (byteInOrder b 0) → p ≡ question2 b
   unfolding question2
-  question2-by n m e f =
-      both (rw m at e ∙ every-same _ _ _ (λ k h. rw (add-zero (16 * (0 + k)), zero-add k)))
-      (rw m at f ∙ every-same _ _ _ (λ k h. rw (add-one k, zero-add k, zero-add (suc k), add-zero (16 * k), add-zero (16 * suc k))))
+  question2-by n m e =
+      rw m at e
+      ∙ both (every-same _ _ _ (λ k h. rw (add-zero (16 * (0 + k)), zero-add k)))
+      (every-same _ _ _ (λ k h. rw (add-one k, zero-add k, zero-add (suc k), add-zero (16 * k), add-zero (16 * suc k))))
 
 -- Layer 1 has widths exactly where those of layer 0 are not all.
 module _ (c : Counts) where
@@ -66,14 +67,15 @@ named-layer false zero = refl
 named-layer false (suc zero) = refl
 named-layer false (suc (suc l)) = rw (leb·zero (suc (suc l)), lt-leb (suc (suc l)) 0 (omega arith), lt-leb (suc (suc l)) 1 (omega arith))
 
--- two tests of one run, with another between them
-between : {p q r s t : Bool} (u v : Bool) → p ≡ s → q ≡ t → r ≡ u && v → p && (q && r) ≡ s && (u && (t && v))
-between {p} {q} {r} {s} {t} u v e f g = both e (both f g ∙ exchange t u v)
+-- two tests of one run and two of another, in turn
+in-turn : {p q : Bool} (s t u v : Bool) → p ≡ s && t → q ≡ u && v → p && q ≡ s && (u && (t && v))
+in-turn s t u v e f = both e f ∙ exchange s t u v
   where
-    exchange : (t u v : Bool) → t && (u && v) ≡ u && (t && v)
-    exchange true u v = refl
-    exchange false true v = refl
-    exchange false false v = refl
+    exchange : (s t u v : Bool) → s && t && (u && v) ≡ s && (u && (t && v))
+    exchange false t u v = refl
+    exchange true true u v = refl
+    exchange true false true v = refl
+    exchange true false false v = refl
 
 -- a test of both layers
 both-layers : (f : ℕ → Bool) (p q : Bool) → p ≡ f 0 → q ≡ f 1 → p && q ≡ every 2 f
@@ -86,16 +88,15 @@ both-layers f p q e g = rw (sym e, sym g) (swapped p q)
     swapped false false = refl
 
 module _ (c : Counts) (b : List ℕ) where
-  pub question24-by : (t : ℕ) {p q r : Bool} → t ≡ topLayer c → p ≡ every (c .widths) (byteWithin b 0 2 0 1) → q ≡ every (c .widths - 1) (byteInOrder b 2)
-      → r ≡ every (c .segments) (byteWithin b (c .widths + c .sizes + c .stages) 15 0 t) → p && (q && r) ≡ question24 c b
+  pub question24-by : (t : ℕ) {p q : Bool} → t ≡ topLayer c → p ≡ every (c .widths) (byteWithin b 0 2 0 1) && every (c .widths - 1) (byteInOrder b 2)
+      → q ≡ every (c .segments) (byteWithin b (c .widths + c .sizes + c .stages) 15 0 t) → p && q ≡ question24 c b
   unfolding question24
-  question24-by t {p} {q} {r} d e f g =
-      let known : p ≡ every (c .widths) (λ k. inRange 0 1 (widthLayer b k)) = e ∙ every-same _ _ _ (λ k h. rw (zero-add k)) in
-      let stays : q ≡ every (c .widths - 1) (λ k. leb (widthLayer b k) (widthLayer b (suc k))) = f ∙ every-same _ _ _ (λ k h. rw (add-one k, zero-add k, zero-add (suc k))) in
-      let layers : r ≡ every (c .segments) (λ i. inRange 0 1 (segmentLayer c b i) && (not (eqb (segmentLayer c b i) 1) || ltb 0 (widthsOf c 1))) =
-      g ∙ every-same _ _ _ (λ i h. rw (d, add-assoc (c .widths + c .sizes) (c .stages) i) (named-layer (ltb 0 (widthsOf c 1)) (segmentLayer c b i))) in
-      between (every (c .segments) (λ i. inRange 0 1 (segmentLayer c b i))) (every (c .segments) (λ i. not (eqb (segmentLayer c b i) 1) || ltb 0 (widthsOf c 1)))
-      known stays (layers ∙ every-and (c .segments) _ _)
+  question24-by t d e f =
+      let known : ℕ → Bool = λ i. inRange 0 1 (segmentLayer c b i) in
+      let held : ℕ → Bool = λ i. not (eqb (segmentLayer c b i) 1) || ltb 0 (widthsOf c 1) in
+      in-turn (every (c .widths) (λ k. inRange 0 1 (widthLayer b k))) (every (c .widths - 1) (λ k. leb (widthLayer b k) (widthLayer b (suc k)))) (every (c .segments) known) (every (c .segments) held)
+      (e ∙ both (every-same _ _ _ (λ k h. rw (zero-add k))) (every-same _ _ _ (λ k h. rw (add-one k, zero-add k, zero-add (suc k)))))
+      (f ∙ every-same _ _ _ (λ i h. rw (d, add-assoc (c .widths + c .sizes) (c .stages) i) (named-layer (ltb 0 (widthsOf c 1)) (segmentLayer c b i))) ∙ every-and (c .segments) known held)
 
   pub question4-by : {p q r s t : Bool} → p ≡ every (c .layer0) (numberInOrder b 0) → q ≡ every (c .widths - c .layer0) (numberInOrder b (c .layer0))
       → r ≡ every (c .sizes) (numberInOrder b (c .widths)) → s ≡ every (c .stages) (numberInOrder b (c .widths + c .sizes))

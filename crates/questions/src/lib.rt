@@ -1,5 +1,5 @@
-// Questions 1 to 11 and 24, asked of a job of any length, in time linear in it. Within a question all tests are asked, by `&`: a proof then has one way
-// through it.
+// Questions 1 to 11 and 24, asked of a job of any length, in time linear in it. Within a question all tests are asked, by `&`: a proof then has
+// one way through it.
 use net::Counts;
 ghost use mathlib.Core.Path.{_≡_};
 ghost use Prim.Native.Nat.{_<_, _≤_};
@@ -31,9 +31,7 @@ fn question2(job: &[u8], n: usize) -> bool
     requires { ⌜ (n ≡ records (now job)) × (1 ≤ n) ⌝ }
     ensures { λ r. ⌜ r ≡ question2 (now (job .entry)) ⌝ }
 {
-    let known = runs::bytes_within(job, 0, n, 0, 1, 4);
-    let stays = runs::bytes_in_order(job, 0, n);
-    known & stays
+    runs::bytes_in_order(job, n, 0, 1, 4)
 }
 
 // The highest layer that has widths.
@@ -54,10 +52,9 @@ fn question24(job: &[u8], counts: Counts) -> bool
 {
     let start = counts.widths + counts.sizes + counts.stages;
     let top = top_layer(counts);
-    let known = runs::bytes_within(job, 0, counts.widths, 2, 0, 1);
-    let stays = runs::bytes_in_order(job, 2, counts.widths);
-    let named = runs::bytes_within(job, start, counts.segments, 15, 0, top);
-    known & (stays & named)
+    let widths = runs::bytes_in_order(job, counts.widths, 2, 0, 1);
+    let segments = runs::bytes_within(job, start, counts.segments, 15, 0, top);
+    widths & segments
 }
 
 // Question 3: is each kind's count in its range, that of widths in each layer?
@@ -224,16 +221,16 @@ fn uncounted(number: usize, n: usize) -> Outcome
         records: n,
         counts: Counts {
             widths: 0,
-            layer0: 0,
             sizes: 0,
             stages: 0,
             segments: 0,
+            layer0: 0,
         },
     }
 }
 
-// The number of the first of questions 1 to 10 and 24 that a job fails, 0 where it passes them; the count of its records; and, where it passes them,
-// their counts by kind. The length is divided here and nowhere else.
+// The number of the first of questions 1 to 10 and 24 that a job fails, 0 where it passes them; the count of its records; and, where it passes
+// them, their counts by kind. The length is divided here and nowhere else.
 fn questions_from_1(job: &[u8]) -> Outcome
     ensures { λ r. ⌜ Asked (now (job .entry)) r ⌝ }
 {

@@ -1,7 +1,8 @@
-// Tests of each record of a run, and the counts of records by kind and of the widths by layer. A run is `count` records from the record `start` on. A test that fails ends
-// its loop.
+// Tests of each record of a run, and the counts of records by kind and of the widths by layer. A run is `count` records from the record `start`
+// on. A test that fails ends its loop.
 use net::Counts;
 ghost use mathlib.Core.Path.{_≡_};
+ghost use mathlib.Core.Bool.{_&&_};
 ghost use Prim.Native.Nat.{_+_, _*_, _-_, _<_, _≤_};
 ghost use lib.ListN.{length};
 ghost use Rattle.lattice.specs.Lists.{every};
@@ -24,22 +25,22 @@ fn word_of(job: &[u8], start: usize, at: usize, k: usize) -> usize
     job::word_at(job, 16 * (start + k) + at) as usize
 }
 
-// Does the byte at `at` fall nowhere from one of the first n records to the next?
-pub fn bytes_in_order(job: &[u8], at: usize, n: usize) -> bool
-    requires { ⌜ HasRun (now job) 0 n × (at < 16) ⌝ }
-    ensures { λ r. ⌜ r ≡ every (n - 1) (byteInOrder (now (job .entry)) at) ⌝ }
+// Is the byte at `at` of each of the first n records from `least` to `most`, and does it fall nowhere from one to the next? Where it falls nowhere,
+// the first tells that none is below `least`, and the last that none is above `most`.
+pub fn bytes_in_order(job: &[u8], n: usize, at: usize, least: usize, most: usize) -> bool
+    requires { ⌜ HasRun (now job) 0 n × (at < 16) × (least ≤ most) ⌝ }
+    ensures { λ r. ⌜ r ≡ every n (byteWithin (now (job .entry)) 0 at least most) && every (n - 1) (byteInOrder (now (job .entry)) at) ⌝ }
 {
-    let mut k = 0;
-    while k + 1 < n {
+    let mut before = least;
+    for k in 0..n {
         let byte = byte_of(job, 0, at, k);
-        let next = byte_of(job, 0, at, k + 1);
-        let passed = byte <= next;
+        let passed = before <= byte;
         if !passed {
             return false;
         }
-        k += 1;
+        before = byte;
     }
-    true
+    before <= most
 }
 
 // Do the numbers of a run of records count from 0?
@@ -269,9 +270,9 @@ pub fn count(job: &[u8], n: usize) -> Counts
     let layer0 = count_layer0(job, widths);
     Counts {
         widths: widths,
-        layer0: layer0,
         sizes: sizes - widths,
         stages: stages - sizes,
         segments: n - stages,
+        layer0: layer0,
     }
 }

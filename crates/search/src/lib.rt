@@ -89,8 +89,7 @@ fn find_tables(job: &[u8], counts: Counts, tables: &mut [usize; 68])
 }
 
 // The first index of place p from `low` on that gives a delay of at most `least`, or the one past `top`, where the table of its layer starts at
-// `rows` and its length is `length`. It writes nothing and is called at the
-// last free place, so most sizings of a search are passed over by it.
+// `rows` and its length is `length`. It writes nothing and is called at the last free place, so most sizings of a search are passed over by it.
 fn pass_over(
     job: &[u8],
     counts: Counts,

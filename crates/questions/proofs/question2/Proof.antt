@@ -4,14 +4,11 @@ use Rattle.questions.proofs.Regroup.{question2-by}
 use Rattle.questions.proofs.question2.Statement.{statement}
 use Rattle.questions.proofs.question2.Tie as tie
 
-bytes-within-requires : tie.Need-bytes-within-requires
-bytes-within-requires c κs = search needs
-
 bytes-in-order-requires : tie.Need-bytes-in-order-requires
 bytes-in-order-requires c κs = search needs
 
 returns : tie.Need-returns
-returns c = question2-by _ _ (c .before .before .before .pre .0) (c .before .bytes-within .ensures) (c .bytes-in-order .ensures)
+returns c = question2-by _ _ (c .before .before .pre .0) (c .bytes-in-order .ensures)
 
 pub question2-spec : {M : Type 1} → statement M
-question2-spec = tie.close (tie.spec bytes-within-requires bytes-in-order-requires returns)
+question2-spec = tie.close (tie.spec bytes-in-order-requires returns)

@@ -13,22 +13,18 @@ add-start-2 c = search needs
 top-layer-requires : tie.Need-top-layer-requires
 top-layer-requires c κs = search needs
 
-bytes-within-requires : tie.Need-bytes-within-requires
-bytes-within-requires c κs = search needs
-
 bytes-in-order-requires : tie.Need-bytes-in-order-requires
 bytes-in-order-requires c κs = search needs
 
-bytes-within-requires-2 : tie.Need-bytes-within-requires-2
-bytes-within-requires-2 c κs = search needs
+bytes-within-requires : tie.Need-bytes-within-requires
+bytes-within-requires c κs = search needs
 
 returns : tie.Need-returns
 returns c =
     question24-by _ _ _
-    (c .before .before .before .top-layer .ensures)
-    (c .before .before .bytes-within .ensures)
+    (c .before .before .top-layer .ensures)
     (c .before .bytes-in-order .ensures)
-    (c .bytes-within2 .ensures)
+    (c .bytes-within .ensures)
 
 pub question24-spec : {M : Type 1} → statement M
 question24-spec =
@@ -37,7 +33,6 @@ question24-spec =
     add-start
     add-start-2
     top-layer-requires
-    bytes-within-requires
     bytes-in-order-requires
-    bytes-within-requires-2
+    bytes-within-requires
     returns)
