@@ -130,14 +130,16 @@ pub fn place_word(job: &[u8], counts: Counts, p: usize, at: usize) -> u64
     word_at(job, 16 * (counts.widths + counts.sizes + p) + at)
 }
 
-// Where among the widths the table of place p's layer starts. A stage has no layer, and the byte zero; a layer is 0 or 1, so the table starts at
-// layer times the widths of layer 0.
+// Where among the widths the table of place p's layer starts. A stage has no layer, and the byte zero.
 pub fn first_row(job: &[u8], counts: Counts, p: usize) -> usize
     requires { ⌜ Held counts (now job) ⌝ }
-    requires { ⌜ (p < placesBy counts) × (byte (now job) (placeAt counts p + 15) ≤ 1) ⌝ }
+    requires { ⌜ p < placesBy counts ⌝ }
     ensures { λ r. ⌜ r ≡ firstRow counts (byte (now (job .entry)) (placeAt counts p + 15)) ⌝ }
 {
-    index(place_byte(job, counts, p, 15)) * counts.layer0
+    if place_byte(job, counts, p, 15) == 0 {
+        return 0;
+    }
+    counts.layer0
 }
 
 // Segment i's wire at the width k, where the table of its layer starts at `rows` and its length is `length`.
@@ -160,7 +162,6 @@ pub fn wire_from(job: &[u8], counts: Counts, rows: usize, length: u64, i: usize,
 // The same, where the layer is read for this one wire.
 pub fn wire_at(job: &[u8], counts: Counts, i: usize, k: usize) -> Wire
     requires { ⌜ Held counts (now job) ⌝ }
-    requires { ⌜ segmentLayer counts (now job) i ≤ 1 ⌝ }
     requires { ⌜ (i < counts .segments) × (k < widthsOf counts (segmentLayer counts (now job) i)) ⌝ }
     ensures { λ r. ⌜ WireAt (netBy counts (now (job .entry))) i k r ⌝ }
 {

@@ -10,7 +10,7 @@ use native.Mathlib.Nat.{mul-le-mul, mul-le-mul-right, le-dest}
 use native.Mathlib.Decide.{decLe}
 use native.Mathlib.Omega.{arith}
 use borrow.Author.Tests.{lt-ltb, le-ltb}
-use lib.Dec.{T, leb, ltb, leb→le, ltb→lt, lit≤, lit<}
+use lib.Dec.{T, leb, ltb, leb→le, ltb→lt, lit<}
 use lib.ListN.{length}
 use Rattle.lattice.specs.Lists.{at, sum, every, tabulate}
 use Rattle.lattice.specs.Space.{Allowed, Falls, Rises, Boxed, inBox, within, Submodular}
@@ -18,7 +18,7 @@ use Rattle.lattice.proofs.ListLaws.{is-true, and-T, T-and, every-at, length-tab
 use Rattle.lattice.proofs.Boxes.{inBox-iff}
 use Rattle.lattice.proofs.Sums.{rises-steps, falls-steps}
 use Rattle.net.specs.declared.Counts.{Counts}
-use Rattle.net.specs.Job.{byte, countsOf, placesBy, placeAt, widthLayer, widthsOf, firstRow, rowResistance, rowCapacitance, sizeResistance, sizeGate, sizeOutput, stageLowest, stageHighest, segmentParent, segmentSink, segmentLength, sinkCapacitance, sinkWeight, segmentLowest, segmentHighest, segmentLayer}
+use Rattle.net.specs.Job.{byte, countsOf, placesBy, widthsOf, firstRow, rowResistance, rowCapacitance, sizeResistance, sizeGate, sizeOutput, stageLowest, stageHighest, segmentParent, segmentSink, segmentLength, sinkCapacitance, sinkWeight, segmentLowest, segmentHighest, segmentLayer}
 use Rattle.net.specs.Net.{Net, places, netBy, netOf}
 use Rattle.net.specs.Delay.{delay, loadFigure}
 use Rattle.net.specs.Segments.{stageCharge}
@@ -28,7 +28,6 @@ use Rattle.net.specs.Checked.{Held, Checked, InRanges, Ordered, Limited}
 use Rattle.net.proofs.Dominance.{delay-submodular}
 use Rattle.net.proofs.Bound.{delay-fits}
 use Rattle.net.proofs.Charged.{load-charged}
-use Rattle.net.proofs.Unnamed.{unnamed-only}
 use Rattle.net.proofs.Records.{counts-held, layer-1, row-held, counts-fill}
 
 -- where no question fails, the first passes and so do the rest
@@ -113,16 +112,6 @@ module _ (c : Counts) (b : List ℕ) (a : Passed c b) where
   few-widths : (l : ℕ) → widthsOf c l ≤ 8
   few-widths zero = few .0
   few-widths (suc l) = rw (same-layer l .0) (few .1)
-
-  stage-byte : (s : ℕ) → s < c .stages → byte b (placeAt c s + 15) ≤ 1
-  stage-byte s h = omega (arith, unnamed-only c b .0 (a .five) .stages s h 15 (lit≤ tt) (lit≤ tt))
-
-  segment-layer : (i : ℕ) → i < c .segments → segmentLayer c b i ≤ 1
-  unfolding question24
-  segment-layer i h =
-      let t = and-T (every (c .widths) (λ k. inRange 0 1 (widthLayer b k))) _ (a .layers) .1 in
-      let u = and-T (every (c .segments) (λ j. inRange 0 1 (segmentLayer c b j))) _ t .0 in
-      in-range 0 1 _ (every-at (c .segments) (λ j. inRange 0 1 (segmentLayer c b j)) u i h) .1
 
   rows : (k : ℕ) → k < c .widths → (rowResistance b k ≤ 100) × (rowCapacitance b k ≤ 100)
   unfolding question6
@@ -232,7 +221,6 @@ checked-by c b e h a =
       someStage = few c b a .3;
       fewStages = few c b a .4;
       fewSegments = few c b a .5;
-      layers = place-cases c b (λ p. byte b (placeAt c p + 15) ≤ 1) (stage-byte c b a) (segment-layer c b a);
       rows = rows c b a;
       drivers = drivers c b a;
       rowsOrder = rows-order c b a;

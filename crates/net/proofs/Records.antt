@@ -115,13 +115,6 @@ pub layer-1 : (c : Counts) (l : ℕ) → (l ≡ 0 → ⊥) → (widthsOf c l ≡
 unfolding widthsOf firstRow
 layer-1 c l n = (rw (ne-eqb l 0 n), rw (ne-eqb l 0 n))
 
--- A layer's table starts at layer times the widths of layer 0.
-pub layer-times : (c : Counts) (l : ℕ) → l ≤ 1 → l * c .layer0 ≡ firstRow c l
-layer-times c zero h = omega (arith, layer-0 c .1)
-layer-times c (suc l) h =
-    let e : suc l ≡ 1 = omega arith in
-    rw e (omega (arith, layer-1 c 1 (λ z. omega (arith, z)) .1))
-
 -- Each row of a layer is one of the widths.
 pub row-held : {c : Counts} {b : List ℕ} → Held c b → (l k : ℕ) → k < widthsOf c l → firstRow c l + k < c .widths
 row-held {c} h zero k n = omega (arith, h .layers, layer-0 c .0, layer-0 c .1)

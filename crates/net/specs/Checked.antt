@@ -7,7 +7,7 @@ use lib.ListN.{length}
 use Rattle.lattice.specs.Lists.{at}
 use Rattle.lattice.specs.Space.{Falls, Rises, Allowed}
 use Rattle.net.specs.declared.Counts.{Counts}
-use Rattle.net.specs.Job.{byte, countsOf, placesBy, placeAt, widthsOf, firstRow, rowResistance, rowCapacitance, sizeResistance, sizeGate, sizeOutput, segmentLength, segmentLayer}
+use Rattle.net.specs.Job.{countsOf, placesBy, widthsOf, firstRow, rowResistance, rowCapacitance, sizeResistance, sizeGate, sizeOutput, segmentLength, segmentLayer}
 use Rattle.net.specs.Net.{Net, places, netBy}
 use Rattle.net.specs.Sizings.{allowed}
 
@@ -16,9 +16,9 @@ pub record Held (c : Counts) (b : List ℕ) : Type 0 where
   pub all : 16 * (c .widths + c .sizes + c .stages + c .segments) ≤ length b
   pub layers : c .layer0 ≤ c .widths
 
--- What questions 1 to 10 and 24 give, with the counts of the job's records.
+-- What questions 1 to 10 give, with the counts of the job's records.
 pub record Checked (c : Counts) (b : List ℕ) : Type 0 where
-  -- 1, 2, 24 and 3
+  -- 1, 2 and 3
   pub counted : c ≡ countsOf b
   pub held : Held c b
   pub fewWidths : (l : ℕ) → widthsOf c l ≤ 8
@@ -26,8 +26,6 @@ pub record Checked (c : Counts) (b : List ℕ) : Type 0 where
   pub someStage : 1 ≤ c .stages
   pub fewStages : c .stages ≤ 4
   pub fewSegments : c .segments ≤ 64
-  -- 24, of a segment; 5, of a stage, which has the byte zero
-  pub layers : (p : ℕ) → p < placesBy c → byte b (placeAt c p + 15) ≤ 1
   -- 6
   pub rows : (k : ℕ) → k < c .widths → (rowResistance b k ≤ 100) × (rowCapacitance b k ≤ 100)
   pub drivers : (k : ℕ) → k < c .sizes → (sizeResistance c b k ≤ 100000) × (sizeGate c b k ≤ 100000) × (sizeOutput c b k ≤ 100000)

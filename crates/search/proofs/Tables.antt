@@ -6,24 +6,20 @@ use mathlib.Core.List.{List, flatMap}
 use Prim.Native.Nat.{ℕ, zero, suc, _+_, _*_, _-_, _≤_, _<_}
 use native.Mathlib.Nat.{eq-or-lt-of-le, le-of-suc-le-suc}
 use native.Mathlib.Numerals.{add-one}
-use native.Mathlib.Decide.{ℕ-discrete}
 use native.Mathlib.Omega.{arith}
 use borrow.Author.Tests.{lt-ltb, le-ltb, ltb-false}
 use lib.Dec.{eqb, ltb}
-use lib.ListN.{length, set, length-set}
+use lib.ListN.{length, set}
 use lib.Seq.{getD-set-same, getD-set-other, set-getD}
 use Rattle.lattice.specs.Lists.{at, from, span}
 use Rattle.lattice.specs.Search.{Found, takes, cover}
 use Rattle.lattice.proofs.Searching.{takes-append}
-use Rattle.net.specs.declared.Counts.{Counts}
-use Rattle.net.specs.Job.{placesBy}
 use Rattle.net.specs.Net.{Net, places}
 use Rattle.net.specs.Delay.{delay}
 use Rattle.net.specs.Places.{placeDelay, placeLoad}
-use Rattle.place.specs.ByCounts.{rowsAt}
 use Rattle.place.specs.Held.{before, free, GatheredFrom}
 use Rattle.place.proofs.After.{after-skip}
-use Rattle.search.specs.Searching.{arrives, SkipsTo, TablesTo, freeLoad, pricedFrom}
+use Rattle.search.specs.Searching.{arrives, SkipsTo, freeLoad, pricedFrom}
 
 module _ (net : Net) (lower upper : List ℕ) where
   -- where a load at a node arrives: at the node itself, but through a held segment
@@ -166,19 +162,3 @@ module _ (net : Net) (lower upper skips : List ℕ) (s : SkipsTo lower upper (pl
   takes-skip order held f =
       cover-skip (delay net) lower upper (at skips p) p (skip-le lower upper (places net) skips s p h) y f
       (λ q a b. let t = skip-held lower upper (places net) skips s p h q a b in (one-index lower upper q (order q (omega arith)) t, held q (omega arith) t))
-
--- The loop that finds where the tables start.
-module _ (c : Counts) (b : List ℕ) where
-  pub tables-start : {tables : List ℕ} → placesBy c ≤ length tables → TablesTo c b 0 tables
-  tables-start h = record { long = h; held = λ q l. absurd (omega arith) }
-
-  pub tables-step : (tables : List ℕ) (p v : ℕ) → p < placesBy c → TablesTo c b p tables → v ≡ rowsAt c b p → TablesTo c b (p + 1) (set tables p v)
-  tables-step tables p v h s e =
-      record {
-        long = rw (length-set tables p v) (s .long);
-        held = λ q l. go q (ℕ-discrete q p) l;
-      }
-    where
-      go : (q : ℕ) → Dec (q ≡ p) → q < p + 1 → at (set tables p v) q ≡ rowsAt c b q
-      go q (yes i) l = rw i (getD-set-same tables p v 0 (omega (arith, s .long)) ∙ e)
-      go q (no i) l = getD-set-other tables p q v 0 (λ k. i k) ∙ s .held q (omega (arith, i))

@@ -16,7 +16,6 @@ use Rattle.net.specs.Sizings.{allowed}
 use Rattle.net.specs.Places.{placeDelay, placeLoad}
 use Rattle.net.specs.Checked.{Checked}
 use Rattle.place.specs.Partial.{cost, WeightsFrom}
-use Rattle.place.specs.ByCounts.{rowsAt}
 use Rattle.place.specs.Held.{before, BeforeTo, sumAfter, free, fixedFrom, GatheredFrom, DrivenFrom, UpstreamTo}
 
 -- `skips` has, for up to n places, how many of them there are up to the last that is free.
@@ -86,14 +85,6 @@ pub record PassedTo (net : Net) (w u p l added least low top k : ℕ) : Type 0 w
   pub from : low ≤ k
   pub within : k ≤ suc top
   pub above : (j : ℕ) → low ≤ j → j < k → least < added + cost net w u p l j
-
--- `tables` has, for the first n places, where the table of the place's layer starts.
-pub record TablesTo (c : Counts) (b : List ℕ) (n : ℕ) (tables : List ℕ) : Type 0 where
-  pub long : placesBy c ≤ length tables
-  pub held : (q : ℕ) → q < n → at tables q ≡ rowsAt c b q
-
-abbrev pub Tabled : Counts → List ℕ → List ℕ → Type 0
-Tabled c b tables = TablesTo c b (placesBy c) tables
 
 -- The place before `left` is free, and is the last one that is, or is not.
 module _ (lower upper skips : List ℕ) (left : ℕ) where

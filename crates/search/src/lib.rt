@@ -11,7 +11,7 @@ ghost use Rattle.envelope.specs.Kept.{found};
 ghost use Rattle.net.specs.Job.{placesBy};
 ghost use Rattle.net.specs.Checked.{Checked, AllowedBy, ForPlaces};
 ghost use Rattle.place.specs.ByCounts.{Weighed, rowsAt, LengthAt, StepInLimits, Driven};
-ghost use Rattle.search.specs.Searching.{Bounds, Prepared, LastFree, MoreFree, BothLong, Skipped, AllFit, Tabled, PassedBy, PassedAt, SizedBy, arrivesAt, Lifted, SearchedFrom, takenBetween};
+ghost use Rattle.search.specs.Searching.{Bounds, Prepared, LastFree, MoreFree, BothLong, Skipped, AllFit, PassedBy, PassedAt, SizedBy, arrivesAt, Lifted, SearchedFrom, takenBetween};
 
 // The node at which a load at `node` arrives, through the held segments above it.
 fn arrival(
@@ -74,20 +74,6 @@ fn skip(job: &[u8], counts: Counts, lower: &[u8], upper: &[u8], skips: &mut [usi
     }
 }
 
-// Where the tables of the places' layers start, so that the search reads no layer.
-fn find_tables(job: &[u8], counts: Counts, tables: &mut [usize; 68])
-    requires { ⌜ Checked counts (now job) ⌝ }
-    requires { ⌜ placesBy counts ≤ length (now tables) ⌝ }
-    ensures { λ r. ⌜ Tabled counts (now (job .entry)) (now (tables .exit)) ⌝ }
-{
-    let places = counts.stages + counts.segments;
-    let mut p = 0;
-    while p < places {
-        tables[p] = job::first_row(job, counts, p);
-        p += 1;
-    }
-}
-
 // The first index of place p from `low` on that gives a delay of at most `least`, or the one past `top`, where the table of its layer starts at
 // `rows` and its length is `length`. It writes nothing and is called at the last free place, so most sizings of a search are passed over by it.
 fn pass_over(
@@ -134,7 +120,6 @@ fn take_from(
     driven: &[u64; 68],
     ups: &[usize; 68],
     skips: &[usize; 69],
-    tables: &[usize; 68],
     lower: &[u8],
     upper: &[u8],
     left: usize,
@@ -152,13 +137,12 @@ fn take_from(
     requires { ⌜ LastFree (now lower) (now upper) (now skips) left ⌝ }
     requires { ⌜ PassedAt counts (now job) (now weights) (now upstream) (now driven) (now lower) (now upper)
         left (added .0) (now gathered) (least .0) start ⌝ }
-    requires { ⌜ Tabled counts (now job) (now tables) ⌝ }
     ensures { λ r. ⌜ SearchedFrom counts (now (job .entry)) (now (lower .entry)) (now (upper .entry)) left
         (now (x .entry)) (now (gathered .entry)) (found (least .0) (now (lean .entry)) (now (wide .entry)))
         (now (x .exit)) (now (gathered .entry)) (found (r .0) (now (lean .exit)) (now (wide .exit))) ⌝ }
 {
     let p = left - 1;
-    let rows = tables[p];
+    let rows = job::first_row(job, counts, p);
     let length = job::place_word(job, counts, p, 4);
     let weight = weights[p];
     let before = Resistance(upstream[p]);
@@ -189,7 +173,6 @@ fn search(
     driven: &[u64; 68],
     ups: &[usize; 68],
     skips: &[usize; 69],
-    tables: &[usize; 68],
     lower: &[u8],
     upper: &[u8],
     left: usize,
@@ -204,18 +187,23 @@ fn search(
     requires { ⌜ SizedBy counts (now job) (now upstream) (now driven) (now ups) (now lower) (now upper)
         left (added .0) (now x) (now gathered) (now lean) (now wide) ⌝ }
     requires { ⌜ MoreFree (now lower) (now upper) (now skips) left ⌝ }
-    requires { ⌜ Tabled counts (now job) (now tables) ⌝ }
     ensures { λ r. ⌜ SearchedFrom counts (now (job .entry)) (now (lower .entry)) (now (upper .entry)) left
         (now (x .entry)) (now (gathered .entry)) (found (least .0) (now (lean .entry)) (now (wide .entry)))
         (now (x .exit)) (now (gathered .exit)) (found (r .0) (now (lean .exit)) (now (wide .exit))) ⌝ }
 {
     let p = left - 1;
-    let rows = tables[p];
+    let rows = job::first_row(job, counts, p);
     let length = job::place_word(job, counts, p, 4);
     let rest = skips[p];
     let next = rest - 1;
-    let next_rows = tables[next];
+    // what stays as it is at the next free place, whatever the index here
+    let next_rows = job::first_row(job, counts, next);
     let next_length = job::place_word(job, counts, next, 4);
+    let next_low = lower[next];
+    let next_top = upper[next];
+    let next_weight = weights[next];
+    let next_before = Resistance(upstream[next]);
+    let next_driven = Capacitance(driven[next]);
     let further = skips[next];
     let weight = weights[p];
     let before = Resistance(upstream[p]);
@@ -234,23 +222,22 @@ fn search(
         gathered[node] = all.0;
         k += 1;
         if further == 0 {
-            let here = Capacitance(driven[next]);
             let arrived = Capacitance(gathered[next + 1]);
             let first = pass_over(
                 job,
                 counts,
-                weights[next],
-                Resistance(upstream[next]),
+                next_weight,
+                next_before,
                 next,
                 next_rows,
                 next_length,
-                quantity::add_capacitance(here, arrived),
+                quantity::add_capacitance(next_driven, arrived),
                 reached,
                 best,
-                lower[next],
-                upper[next],
+                next_low,
+                next_top,
             );
-            if first <= upper[next] {
+            if first <= next_top {
                 best = take_from(
                     job,
                     counts,
@@ -259,7 +246,6 @@ fn search(
                     driven,
                     ups,
                     skips,
-                    tables,
                     lower,
                     upper,
                     rest,
@@ -281,7 +267,6 @@ fn search(
                 driven,
                 ups,
                 skips,
-                tables,
                 lower,
                 upper,
                 rest,
@@ -307,7 +292,6 @@ fn start(
     driven: &[u64; 68],
     ups: &[usize; 68],
     skips: &[usize; 69],
-    tables: &[usize; 68],
     lower: &[u8],
     upper: &[u8],
     x: &mut [u8],
@@ -318,7 +302,6 @@ fn start(
     requires { ⌜ Prepared counts (now job) (now weights) (now upstream) (now driven) (now ups) (now skips) (now lower) (now upper) ⌝ }
     requires { ⌜ now x ≡ now lower ⌝ }
     requires { ⌜ ForPlaces counts (now lean) × ForPlaces counts (now wide) ⌝ }
-    requires { ⌜ Tabled counts (now job) (now tables) ⌝ }
     ensures { λ r. ⌜ found (r .0) (now (lean .exit)) (now (wide .exit))
         ≡ takenBetween counts (now (job .entry)) (now (lower .entry)) (now (upper .entry))
         (found (least .0) (now (lean .entry)) (now (wide .entry))) ⌝ }
@@ -339,7 +322,6 @@ fn start(
             driven,
             ups,
             skips,
-            tables,
             lower,
             upper,
             left,
@@ -360,7 +342,6 @@ fn start(
         driven,
         ups,
         skips,
-        tables,
         lower,
         upper,
         left,
@@ -405,9 +386,6 @@ pub fn between(
     // counts of places
     let mut skips = [0usize; 69];
     skip(job, counts, lower, upper, &mut skips);
-    // where the tables of the layers start, by place
-    let mut tables = [0usize; 68];
-    find_tables(job, counts, &mut tables);
     start(
         job,
         counts,
@@ -416,7 +394,6 @@ pub fn between(
         &driven,
         &ups,
         &skips,
-        &tables,
         lower,
         upper,
         x,

@@ -1,5 +1,4 @@
 -- `elmore::sized` meets its contract: the sizing's width has its row.
-use Prim.Native.Nat.{_+_}
 use native.Mathlib.Omega.{arith}
 use Rattle.elmore.proofs.Drives.{width-held}
 use borrow.Author.Needs.{needs}
@@ -21,7 +20,7 @@ sink-requires c κs = search needs
 wire-at-requires : tie.Need-wire-at-requires
 wire-at-requires c κs =
     let b = c .before .before .before .before .before .before in
-    (b .pre .0 .checked .held, (b .pre .0 .checked .layers (b .args .counts .stages + b .args .i) (omega arith), (b .pre .1, omega (arith, width-held (b .pre .0) (b .args .i) (b .pre .1)))))
+    (b .pre .0 .checked .held, (b .pre .1, omega (arith, width-held (b .pre .0) (b .args .i) (b .pre .1))))
 
 returns : tie.Need-returns
 returns c =

@@ -1,5 +1,5 @@
 -- `place::shown_load` meets its contract: a place is a stage or a segment.
-use Prim.Native.Nat.{_+_, _-_}
+use Prim.Native.Nat.{_-_}
 use native.Mathlib.Omega.{arith}
 use mathlib.Core.Path.{sym, _∙_}
 use Rattle.net.specs.Net.{netBy}
@@ -36,7 +36,7 @@ wire-at-requires c κs =
     let e = c .before .before .before .index .ensures in
     let i = b .args .p - b .args .counts .stages in
     let w = width-at (b .pre .0) (b .args .p) (omega arith) (omega arith) in
-    (b .pre .0 .held, (b .pre .0 .layers (b .args .counts .stages + i) (omega arith), (omega arith, omega arith)))
+    (b .pre .0 .held, (omega arith, omega arith))
 
 add-capacitance-requires : tie.Need-add-capacitance-requires
 add-capacitance-requires c κs =

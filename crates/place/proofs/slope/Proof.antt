@@ -1,5 +1,5 @@
 -- `place::slope` meets its contract: a place is a stage or a segment, and its slope fits.
-use Prim.Native.Nat.{_+_, _*_, _-_}
+use Prim.Native.Nat.{_*_, _-_}
 use native.Mathlib.Omega.{arith}
 use mathlib.Core.Path.{sym, _∙_}
 use Rattle.net.specs.Net.{netBy}
@@ -51,7 +51,7 @@ wire-at-requires c κs =
     let e = c .before .before .before .index .ensures in
     let i = b .args .p - b .args .counts .stages in
     let w = width-at (b .pre .0) (b .args .p) (omega arith) (omega arith) in
-    (b .pre .0 .held, (b .pre .0 .layers (b .args .counts .stages + i) (omega arith), (omega arith, omega arith)))
+    (b .pre .0 .held, (omega arith, omega arith))
 
 mul-weighted-resistance : tie.Need-mul-weighted-resistance
 mul-weighted-resistance c =

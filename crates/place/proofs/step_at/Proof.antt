@@ -6,7 +6,7 @@ use Rattle.place.proofs.step_at.Tie as tie
 first-row-requires : tie.Need-first-row-requires
 first-row-requires c κs =
     let b = c .before in
-    (b .pre .0 .held, (b .pre .1 .0, b .pre .0 .layers (b .args .p) (b .pre .1 .0)))
+    (b .pre .0 .held, b .pre .1 .0)
 
 place-word-requires : tie.Need-place-word-requires
 place-word-requires c κs = search needs

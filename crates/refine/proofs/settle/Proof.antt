@@ -21,7 +21,7 @@ abbrev μ-loop : tie.MeasureT-loop
 first-row-requires : tie.Need-first-row-requires Inv-loop μ-loop
 first-row-requires c κs =
     let b = c .before in
-    (b .pre .0 .held, (b .pre .1 .0, b .pre .0 .layers (b .args .place) (b .pre .1 .0)))
+    (b .pre .0 .held, b .pre .1 .0)
 
 place-word-requires : tie.Need-place-word-requires Inv-loop μ-loop
 place-word-requires c κs = search needs

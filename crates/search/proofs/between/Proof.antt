@@ -11,7 +11,6 @@ use Rattle.place.proofs.drive.Reads as drive-reads
 use Rattle.place.proofs.go_upstream.Reads as go-upstream-reads
 use Rattle.search.proofs.lift.Reads as lift-reads
 use Rattle.search.proofs.skip.Reads as skip-reads
-use Rattle.search.proofs.find_tables.Reads as find-tables-reads
 use Rattle.search.proofs.start.Reads as start-reads
 
 drive-requires : tie.Need-drive-requires
@@ -37,26 +36,21 @@ skip-requires c κs =
     let b = c .before .before .before .before .before .before .before .before .before .before .before .before .before .before in
     (b .pre .0 .checked, ((omega (arith, allowed-long (netBy (b .args .counts) (b .args .job .now)) (b .args .lower .now) (b .pre .0 .lowerAllowed)), omega (arith, allowed-long (netBy (b .args .counts) (b .args .job .now)) (b .args .upper .now) (b .pre .0 .upperAllowed))), omega (arith, b .pre .0 .checked .fewStages, b .pre .0 .checked .fewSegments)))
 
-find-tables-requires : tie.Need-find-tables-requires
-find-tables-requires c κs =
-    let b = c .before .before .before .before .before .before .before .before .before .before .before .before .before .before .before .before in
-    (b .pre .0 .checked, omega (arith, b .pre .0 .checked .fewStages, b .pre .0 .checked .fewSegments))
-
 start-requires : tie.Need-start-requires
 start-requires c κs =
-    let b = c .before .before .before .before .before .before .before .before .before .before .before .before .before .before .before .before .before .before .before .before .before .before .before .before .before in (
+    let b = c .before .before .before .before .before .before .before .before .before .before .before .before .before .before .before .before .before .before .before .before .before .before in (
       record {
         checked = b .pre .0 .checked;
         weighed = b .pre .0 .weighed;
-        known = c .before .before .before .before .before .before .before .before .before .before .before .before .before .before .go-upstream .ensures;
-        drives = c .before .before .before .before .before .before .before .before .before .before .before .before .before .before .before .before .before .drive .ensures;
-        lifted = c .before .before .before .before .before .before .before .before .before .before .before .before .lift .ensures;
-        skipped = c .before .before .before .before .before .before .before .before .before .before .skip .ensures;
+        known = c .before .before .before .before .before .before .before .before .before .before .before .go-upstream .ensures;
+        drives = c .before .before .before .before .before .before .before .before .before .before .before .before .before .before .drive .ensures;
+        lifted = c .before .before .before .before .before .before .before .before .before .lift .ensures;
+        skipped = c .before .before .before .before .before .before .before .skip .ensures;
         lowerAllowed = b .pre .0 .lowerAllowed;
         upperAllowed = b .pre .0 .upperAllowed;
         inOrder = b .pre .0 .inOrder;
       },
-      (b .pre .1 .0, (b .pre .1 .1, c .before .before .before .before .before .before .before .before .find-tables .ensures)),
+      (b .pre .1 .0, b .pre .1 .1),
     )
 
 same-length : tie.Need-same-length
@@ -80,7 +74,6 @@ between-spec =
     go-upstream-requires
     lift-requires
     skip-requires
-    find-tables-requires
     start-requires
     same-length
     same-length-2

@@ -36,7 +36,7 @@ keep-requires : tie.Need-keep-requires
 keep-requires c κs =
     let b = c .before .before .before .before .before .before .before .before .before .before .before .before .before in
     let e = ap length (b .pre .1 .0) ∙ allowed-long (netBy (b .args .counts) (b .args .job .now)) (b .args .lower .now) (b .pre .0 .lowerAllowed) in
-    (e ∙ sym (b .pre .1 .1 .0 .0), e ∙ sym (b .pre .1 .1 .0 .1))
+    (e ∙ sym (b .pre .1 .1 .0), e ∙ sym (b .pre .1 .1 .1))
 
 same-length : tie.Need-same-length
 same-length c = search needs
@@ -79,10 +79,10 @@ take-from-requires c κs =
     let n = c .before .before .before .before .before .before .before .if1 .left in (
       b .pre .0,
       (
-        start-sized (b .pre .0) (c .before .before .before .before .before .before .before .before .before .before .fixed-delay .result .0) (b .pre .1 .0) (c .before .before .before .before .before .before .before .before .before .before .fixed-delay .ensures) (b .pre .1 .1 .0 .0) (b .pre .1 .1 .0 .1),
+        start-sized (b .pre .0) (c .before .before .before .before .before .before .before .before .before .before .fixed-delay .result .0) (b .pre .1 .0) (c .before .before .before .before .before .before .before .before .before .before .fixed-delay .ensures) (b .pre .1 .1 .0) (b .pre .1 .1 .1),
         (
           (omega (arith, n), skip-free (b .args .lower .now) (b .args .upper .now) (b .args .counts .stages + b .args .counts .segments) (b .args .skips .now) (b .pre .0 .skipped) (b .args .counts .stages + b .args .counts .segments) (omega arith) n, c .before .before .before .before .before .if2 .taken),
-          (passing-start (b .pre .0 .inOrder _ (omega (arith, skip-le (b .args .lower .now) (b .args .upper .now) (b .args .counts .stages + b .args .counts .segments) (b .args .skips .now) (b .pre .0 .skipped) (b .args .counts .stages + b .args .counts .segments) (omega arith), n))), b .pre .1 .1 .1),
+          passing-start (b .pre .0 .inOrder _ (omega (arith, skip-le (b .args .lower .now) (b .args .upper .now) (b .args .counts .stages + b .args .counts .segments) (b .args .skips .now) (b .pre .0 .skipped) (b .args .counts .stages + b .args .counts .segments) (omega arith), n))),
         ),
       ),
     )
@@ -107,8 +107,8 @@ search-requires c κs =
     let n = c .before .before .before .before .before .before .if1 .left in (
       b .pre .0,
       (
-        start-sized (b .pre .0) (c .before .before .before .before .before .before .before .before .before .fixed-delay .result .0) (b .pre .1 .0) (c .before .before .before .before .before .before .before .before .before .fixed-delay .ensures) (b .pre .1 .1 .0 .0) (b .pre .1 .1 .0 .1),
-        ((omega (arith, n), skip-free (b .args .lower .now) (b .args .upper .now) (b .args .counts .stages + b .args .counts .segments) (b .args .skips .now) (b .pre .0 .skipped) (b .args .counts .stages + b .args .counts .segments) (omega arith) n, omega (arith, c .before .before .before .before .if2 .left)), b .pre .1 .1 .1),
+        start-sized (b .pre .0) (c .before .before .before .before .before .before .before .before .before .fixed-delay .result .0) (b .pre .1 .0) (c .before .before .before .before .before .before .before .before .before .fixed-delay .ensures) (b .pre .1 .1 .0) (b .pre .1 .1 .1),
+        (omega (arith, n), skip-free (b .args .lower .now) (b .args .upper .now) (b .args .counts .stages + b .args .counts .segments) (b .args .skips .now) (b .pre .0 .skipped) (b .args .counts .stages + b .args .counts .segments) (omega arith) n, omega (arith, c .before .before .before .before .if2 .left)),
       ),
     )
 

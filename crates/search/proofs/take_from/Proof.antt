@@ -18,26 +18,21 @@ use Rattle.quantity.proofs.add_capacitance.Reads as add-capacitance-reads
 use Rattle.quantity.proofs.add_delay.Reads as add-delay-reads
 
 abbrev Inv-loop : tie.InvT-loop
-Inv-loop job counts weights upstream driven ups skips tables lower upper left start added x₀ gathered lean₀ wide₀ p rows length weight before load top k₀ best₀ x lean wide k best =
+Inv-loop job counts weights upstream driven ups skips lower upper left start added x₀ gathered lean₀ wide₀ p rows length weight before load top k₀ best₀ x lean wide k best =
     Turning (netBy counts job) lower upper p x₀ (found (best₀ .0) lean₀ wide₀) x k (found (best .0) lean wide)
 
 abbrev μ-loop : tie.MeasureT-loop
-μ-loop job counts weights upstream driven ups skips tables lower upper left start added x₀ gathered lean₀ wide₀ p rows length weight before load top k₀ best₀ x lean wide k best = suc top - k
+μ-loop job counts weights upstream driven ups skips lower upper left start added x₀ gathered lean₀ wide₀ p rows length weight before load top k₀ best₀ x lean wide k best = suc top - k
 
 sub-p : tie.Need-sub-p Inv-loop μ-loop
 sub-p c =
     let b = c .before .before .before .before .before .before in
     omega (arith, b .pre .1 .1 .0 .0)
 
-mul-rows : tie.Need-mul-rows Inv-loop μ-loop
-mul-rows c =
+first-row-requires : tie.Need-first-row-requires Inv-loop μ-loop
+first-row-requires c κs =
     let b = c .before .before .before .before .before .before in
-    omega (arith, b .pre .1 .0 .few, b .pre .1 .1 .0 .0, b .pre .0 .checked .fewStages, b .pre .0 .checked .fewSegments)
-
-element-copy-out-rows : tie.Need-element-copy-out-rows Inv-loop μ-loop
-element-copy-out-rows c =
-    let b = c .before .before .before .before .before .before in
-    omega (arith, b .pre .1 .0 .few, b .pre .1 .1 .0 .0, b .pre .0 .checked .fewStages, b .pre .0 .checked .fewSegments)
+    (b .pre .0 .checked .held, few (b .pre .0) (b .pre .1 .0) (b .args .least .0) (b .pre .1 .1 .0 .0) (b .pre .1 .1 .0 .1))
 
 place-word-requires : tie.Need-place-word-requires Inv-loop μ-loop
 place-word-requires c κs =
@@ -54,38 +49,38 @@ element-copy-out-weight c =
     let b = c .before .before .before .before .before .before .before .before in
     omega (arith, b .pre .1 .0 .few, b .pre .1 .1 .0 .0, b .pre .0 .checked .fewStages, b .pre .0 .checked .fewSegments)
 
-mul-t34 : tie.Need-mul-t34 Inv-loop μ-loop
-mul-t34 c =
+mul-t30 : tie.Need-mul-t30 Inv-loop μ-loop
+mul-t30 c =
     let b = c .before .before .before .before .before .before .before .before .before in
     omega (arith, b .pre .1 .0 .few, b .pre .1 .1 .0 .0, b .pre .0 .checked .fewStages, b .pre .0 .checked .fewSegments)
 
-element-copy-out-t37 : tie.Need-element-copy-out-t37 Inv-loop μ-loop
-element-copy-out-t37 c =
+element-copy-out-t33 : tie.Need-element-copy-out-t33 Inv-loop μ-loop
+element-copy-out-t33 c =
     let b = c .before .before .before .before .before .before .before .before .before in
     omega (arith, b .pre .1 .0 .few, b .pre .1 .1 .0 .0, b .pre .0 .checked .fewStages, b .pre .0 .checked .fewSegments)
 
-mul-t31 : tie.Need-mul-t31 Inv-loop μ-loop
-mul-t31 c =
+mul-t30-2 : tie.Need-mul-t30-2 Inv-loop μ-loop
+mul-t30-2 c =
     let b = c .before .before .before .before .before .before .before .before .before .before in
     omega (arith, b .pre .1 .0 .few, b .pre .1 .1 .0 .0, b .pre .0 .checked .fewStages, b .pre .0 .checked .fewSegments)
 
-element-copy-out-t37-2 : tie.Need-element-copy-out-t37-2 Inv-loop μ-loop
-element-copy-out-t37-2 c =
+element-copy-out-t33-2 : tie.Need-element-copy-out-t33-2 Inv-loop μ-loop
+element-copy-out-t33-2 c =
     let b = c .before .before .before .before .before .before .before .before .before .before in
     omega (arith, b .pre .1 .0 .few, b .pre .1 .1 .0 .0, b .pre .0 .checked .fewStages, b .pre .0 .checked .fewSegments)
 
-add-t34 : tie.Need-add-t34 Inv-loop μ-loop
-add-t34 c =
+add-t39 : tie.Need-add-t39 Inv-loop μ-loop
+add-t39 c =
     let b = c .before .before .before .before .before .before .before .before .before .before .before in
     omega (arith, b .pre .1 .0 .few, b .pre .1 .1 .0 .0, b .pre .0 .checked .fewStages, b .pre .0 .checked .fewSegments)
 
-mul-t43 : tie.Need-mul-t43 Inv-loop μ-loop
-mul-t43 c =
+mul-t40 : tie.Need-mul-t40 Inv-loop μ-loop
+mul-t40 c =
     let b = c .before .before .before .before .before .before .before .before .before .before .before in
     omega (arith, b .pre .1 .0 .few, b .pre .1 .1 .0 .0, b .pre .0 .checked .fewStages, b .pre .0 .checked .fewSegments)
 
-element-copy-out-t46 : tie.Need-element-copy-out-t46 Inv-loop μ-loop
-element-copy-out-t46 c =
+element-copy-out-t43 : tie.Need-element-copy-out-t43 Inv-loop μ-loop
+element-copy-out-t43 c =
     let b = c .before .before .before .before .before .before .before .before .before .before .before in
     omega (arith, b .pre .1 .0 .few, b .pre .1 .1 .0 .0, b .pre .0 .checked .fewStages, b .pre .0 .checked .fewSegments)
 
@@ -102,13 +97,13 @@ shared-slice-read-top c =
 loop-holds : tie.Need-loop-holds Inv-loop μ-loop
 loop-holds c =
     let b = c .before .before .before .before .before .before .before .before .before .before .before .before .before .before in
-    passed-to (b .pre .0) (b .pre .1 .0) (b .args .least .0) (b .pre .1 .1 .0 .0) (b .pre .1 .1 .0 .1) (b .pre .1 .1 .0 .2) (b .args .start) (b .pre .1 .1 .1 .0)
+    passed-to (b .pre .0) (b .pre .1 .0) (b .args .least .0) (b .pre .1 .1 .0 .0) (b .pre .1 .1 .0 .1) (b .pre .1 .1 .0 .2) (b .args .start) (b .pre .1 .1 .1)
 
 step-requires : tie.Need-step-requires Inv-loop μ-loop
 step-requires c κs =
     let b = c .before .before .before .before .before .before .before .before .before .before .before .before .before .before .before .before in
     let l = c .before .loop in
-    (b .pre .0 .checked, (b .pre .1 .1 .1 .1 .held (b .args .left - 1) (few (b .pre .0) (b .pre .1 .0) (b .args .least .0) (b .pre .1 .1 .0 .0) (b .pre .1 .1 .0 .1)), (c .before .before .before .before .before .before .before .before .place-word .ensures, (few (b .pre .0) (b .pre .1 .0) (b .args .least .0) (b .pre .1 .1 .0 .0) (b .pre .1 .1 .0 .1), high (b .pre .0) (b .pre .1 .0) (b .args .least .0) (b .pre .1 .1 .0 .0) (b .pre .1 .1 .0 .1) (l .inv) (c .loop-test .taken), weight-most (b .pre .0) (b .pre .1 .0) (b .args .least .0) (b .pre .1 .1 .0 .0) (b .pre .1 .1 .0 .1), resistance-most (b .pre .0) (b .pre .1 .0) (b .args .least .0) (b .pre .1 .1 .0 .0) (b .pre .1 .1 .0 .1), load-most (b .pre .0) (b .pre .1 .0) (b .args .least .0) (b .pre .1 .1 .0 .0) (b .pre .1 .1 .0 .1) _ (c .before .before .before .add-capacitance .ensures .0)))))
+    (b .pre .0 .checked, (c .before .before .before .before .before .before .before .before .before .first-row .ensures, (c .before .before .before .before .before .before .before .before .place-word .ensures, (few (b .pre .0) (b .pre .1 .0) (b .args .least .0) (b .pre .1 .1 .0 .0) (b .pre .1 .1 .0 .1), high (b .pre .0) (b .pre .1 .0) (b .args .least .0) (b .pre .1 .1 .0 .0) (b .pre .1 .1 .0 .1) (l .inv) (c .loop-test .taken), weight-most (b .pre .0) (b .pre .1 .0) (b .args .least .0) (b .pre .1 .1 .0 .0) (b .pre .1 .1 .0 .1), resistance-most (b .pre .0) (b .pre .1 .0) (b .args .least .0) (b .pre .1 .1 .0 .0) (b .pre .1 .1 .0 .1), load-most (b .pre .0) (b .pre .1 .0) (b .args .least .0) (b .pre .1 .1 .0 .0) (b .pre .1 .1 .0 .1) _ (c .before .before .before .add-capacitance .ensures .0)))))
 
 add-delay-requires : tie.Need-add-delay-requires Inv-loop μ-loop
 add-delay-requires c κs =
@@ -185,18 +180,17 @@ take-from-spec =
     Inv-loop
     μ-loop
     sub-p
-    mul-rows
-    element-copy-out-rows
+    first-row-requires
     place-word-requires
     mul-weight
     element-copy-out-weight
-    mul-t34
-    element-copy-out-t37
-    mul-t31
-    element-copy-out-t37-2
-    add-t34
-    mul-t43
-    element-copy-out-t46
+    mul-t30
+    element-copy-out-t33
+    mul-t30-2
+    element-copy-out-t33-2
+    add-t39
+    mul-t40
+    element-copy-out-t43
     add-capacitance-requires
     shared-slice-read-top
     loop-holds
