@@ -46,10 +46,10 @@ unfoldable pub countsOf : List ℕ → Counts
 countsOf b =
     record {
       widths = count b 1 (records b);
+      layer0 = countLayer0 b (records b);
       sizes = count b 2 (records b);
       stages = count b 3 (records b);
       segments = count b 4 (records b);
-      layer0 = countLayer0 b (records b);
     }
 
 -- How many places there are. A place, a term of the specification, is a stage or a segment: stages first, then segments.

@@ -3,8 +3,8 @@
 // How many records of each kind a job has, and how many of its widths are of layer 0: the others are of layer 1.
 pub struct Counts {
     pub widths: usize,
+    pub layer0: usize,
     pub sizes: usize,
     pub stages: usize,
     pub segments: usize,
-    pub layer0: usize,
 }

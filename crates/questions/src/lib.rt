@@ -221,10 +221,10 @@ fn uncounted(number: usize, n: usize) -> Outcome
         records: n,
         counts: Counts {
             widths: 0,
+            layer0: 0,
             sizes: 0,
             stages: 0,
             segments: 0,
-            layer0: 0,
         },
     }
 }

@@ -100,7 +100,7 @@ module _ {b : List ℕ} {n : ℕ} (h : Kinds b n) where
       ∙ sym (counts-none (λ r. eqb (kind b r) 1 && eqb (widthLayer b r) 0) w n (x .front .within) (λ k i l. rw (ne-eqb (kind b k) 1 (λ e. omega (arith, x .behind k i l, e)))))
 
   pub counts-runs : {w s t v : ℕ} → Ends b n 1 w → Ends b n 2 s → Ends b n 3 t → v ≡ layer0In b w
-      → _≡_ {A = Counts} (record { widths = w; sizes = s - w; stages = t - s; segments = n - t; layer0 = v }) (countsTo b n)
+      → _≡_ {A = Counts} (record { widths = w; layer0 = v; sizes = s - w; stages = t - s; segments = n - t }) (countsTo b n)
   counts-runs {w} {s} {t} {v} x y z u =
       let e : w ≡ count b 1 n = omega (arith, counts-run ends-none x) in
       let d : v ≡ countLayer0 b n = u ∙ layer0-run x in

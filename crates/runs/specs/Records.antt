@@ -79,8 +79,8 @@ module _ (b : List ℕ) where
   countsTo n =
       record {
         widths = count b 1 n;
+        layer0 = countLayer0 b n;
         sizes = count b 2 n;
         stages = count b 3 n;
         segments = count b 4 n;
-        layer0 = countLayer0 b n;
       }

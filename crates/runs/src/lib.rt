@@ -270,9 +270,9 @@ pub fn count(job: &[u8], n: usize) -> Counts
     let layer0 = count_layer0(job, widths);
     Counts {
         widths: widths,
+        layer0: layer0,
         sizes: sizes - widths,
         stages: stages - sizes,
         segments: n - stages,
-        layer0: layer0,
     }
 }
