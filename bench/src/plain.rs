@@ -95,8 +95,16 @@ fn word(record: &Record, at: usize) -> u64 {
     u32::from_le_bytes([record[at], record[at + 1], record[at + 2], record[at + 3]]).into()
 }
 
-fn never_falls(records: &[Record], at: usize) -> bool {
-    records.windows(2).all(|w| w[0][at] <= w[1][at])
+/// Is a byte from `least` to `most` in each record, and does it never fall from one to the next?
+fn climbs(records: &[Record], at: usize, least: u8, most: u8) -> bool {
+    let mut before = least;
+    for record in records {
+        if record[at] < before {
+            return false;
+        }
+        before = record[at];
+    }
+    before <= most
 }
 
 fn in_order(records: &[Record]) -> bool {
@@ -141,7 +149,7 @@ fn check<'a>(job: &'a [u8], links: &mut Links) -> Result<Net<'a>, usize> {
     if job.is_empty() || !rest.is_empty() {
         return Err(1);
     }
-    if !(records.iter().all(|r| (1..=4).contains(&r[0])) && never_falls(records, 0)) {
+    if !climbs(records, 0, 1, 4) {
         return Err(2);
     }
     let mut counts = [0usize; 5];
@@ -154,7 +162,7 @@ fn check<'a>(job: &'a [u8], links: &mut Links) -> Result<Net<'a>, usize> {
     let (stages, segments) = records.split_at(stages);
     let (first, second) = widths.split_at(widths.iter().filter(|r| r[2] == 0).count());
     let top = u8::from(!second.is_empty());
-    if !(widths.iter().all(|r| r[2] <= 1) && never_falls(widths, 2) && segments.iter().all(|r| r[15] <= top)) {
+    if !(climbs(widths, 2, 0, 1) && segments.iter().all(|r| r[15] <= top)) {
         return Err(24);
     }
     if !(1..=8).contains(&first.len())
@@ -561,8 +569,7 @@ impl Sums {
     }
 }
 
-/// The search over the free places, from the last to the first. Loads go past held segments at once. `rows` has those of
-/// each segment's layer, by place.
+/// The search over the free places, from the last to the first. Loads go past held segments at once.
 struct Search<'a, 'f> {
     net: Net<'a>,
     sums: &'a Sums,
@@ -571,21 +578,11 @@ struct Search<'a, 'f> {
     x: &'a mut [u8],
     ups: [usize; PLACES],
     skips: [usize; PLACES + 1],
-    rows: [&'a [Record]; PLACES],
     gathered: [u64; PLACES + 1],
     found: &'a mut Found<'f>,
 }
 
-impl<'a> Search<'a, '_> {
-    /// The wire of a place that is a segment, its rows from the table, so that no layer is looked at in the search.
-    fn wire(&self, p: usize) -> Option<Wire<'a>> {
-        let segment = &self.net.segments[p.checked_sub(self.net.stages.len())?];
-        Some(Wire {
-            rows: self.rows[p],
-            length: word(segment, 4),
-        })
-    }
-
+impl Search<'_, '_> {
     fn all(&mut self) {
         let places = self.net.places();
         self.x.copy_from_slice(self.lower);
@@ -604,9 +601,6 @@ impl<'a> Search<'a, '_> {
                 fixed += self.net.step(weight, self.net.wire_at(p), self.lower[p], driven).delay;
             }
         }
-        for (rows, segment) in self.rows[self.net.stages.len()..].iter_mut().zip(self.net.segments) {
-            *rows = self.net.wire(segment).rows;
-        }
         match self.skips[places] {
             0 => self.found.keep(self.x, fixed),
             left if self.skips[left - 1] == 0 => self.last(left, fixed),
@@ -619,7 +613,7 @@ impl<'a> Search<'a, '_> {
         let p = left - 1;
         let (weight, upstream) = (self.sums.weights[p], self.sums.upstream[p]);
         let driven = self.sums.driven[p] + self.gathered[p + 1];
-        let wire = self.wire(p);
+        let wire = self.net.wire_at(p);
         let reached = |net: &Net, k: u8| {
             let step = net.step(weight, wire, k, driven);
             added + step.delay + upstream * step.load
@@ -643,7 +637,7 @@ impl<'a> Search<'a, '_> {
         let p = left - 1;
         let (weight, upstream) = (self.sums.weights[p], self.sums.upstream[p]);
         let driven = self.sums.driven[p] + self.gathered[p + 1];
-        let wire = self.wire(p);
+        let wire = self.net.wire_at(p);
         let rest = self.skips[p];
         let further = self.skips[rest - 1];
         let node = self.ups[p];
@@ -916,7 +910,6 @@ fn size_by(job: &[u8], reply: &mut [u8], way: Way) -> usize {
             x,
             ups: [0; PLACES],
             skips: [0; PLACES + 1],
-            rows: [&[]; PLACES],
             gathered: [0; PLACES + 1],
             found: &mut found,
         }

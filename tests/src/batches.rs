@@ -10,7 +10,7 @@ use crate::generate::{
 };
 use crate::limits::{largest_plans, limits};
 use crate::plan::Plan;
-use crate::questions::{first_no, layer_faults, read, stray_sink_alone};
+use crate::questions::{fails_in_layer_1, first_no, layer_faults, read, stray_sink_alone};
 use crate::random::Random;
 use crate::reference::{Refined, measure, refine};
 use crate::worked;
@@ -40,6 +40,9 @@ pub const LAYER_FAULTS: [&str; 4] = [
     "24 for layers that fall",
     "24 for layer 1, named and empty",
 ];
+
+/// A call that is refused with 3, 4, 7 or 10 for layer 1 alone.
+pub const LAYER_1: &str = "layer 1 alone";
 
 /// A call on a job that passes and has segments on both layers.
 pub const BOTH_LAYERS: &str = "segments on both layers";
@@ -76,7 +79,8 @@ pub fn job_of(call: &Call) -> &[u8] {
     }
 }
 
-/// What a call meets in the layers of its job: one way to fail question 24, of a call that tells its number, or segments on both.
+/// What a call meets in the layers of its job: segments on both, or, of a call that tells its number, one way to fail question 24
+/// or another question failed for layer 1 alone.
 fn met_in_layers(call: &Call) -> Option<&'static str> {
     let job = job_of(call);
     match first_no(job) {
@@ -90,6 +94,7 @@ fn met_in_layers(call: &Call) -> Option<&'static str> {
             let way = faults.iter().position(|&fault| fault)?;
             alone.then_some(LAYER_FAULTS[way])
         }
+        number if !matches!(call, Call::Choose { .. }) => fails_in_layer_1(job, number).then_some(LAYER_1),
         _ => None,
     }
 }
@@ -328,39 +333,53 @@ pub fn room_calls() -> Vec<Call> {
         .collect()
 }
 
-/// The calls for the worked jobs: every sizing, every place, every pair.
-pub fn worked_calls() -> Vec<Call> {
+/// The calls for a small job: every sizing, every place, every pair.
+fn plan_calls(plan: &Plan) -> Vec<Call> {
     let mut calls = Vec::new();
-    for (_, plan) in worked::named() {
-        let job = plan.bytes();
-        let (lowest, highest): (Vec<u8>, Vec<u8>) = plan.ranges().iter().map(|range| (range[0], range[1])).unzip();
-        let sizings = crate::reference::sizings_between(&lowest, &highest);
-        for x in &sizings {
-            calls.push(Call::Measure {
+    let job = plan.bytes();
+    let (lowest, highest): (Vec<u8>, Vec<u8>) = plan.ranges().iter().map(|range| (range[0], range[1])).unzip();
+    let sizings = crate::reference::sizings_between(&lowest, &highest);
+    for x in &sizings {
+        calls.push(Call::Measure {
+            job: job.clone(),
+            sizing: x.clone(),
+            figures: marked(16),
+        });
+        for place in 0..=plan.places() {
+            calls.push(Call::Refine {
                 job: job.clone(),
                 sizing: x.clone(),
-                figures: marked(16),
+                place,
+                ends: marked(10),
             });
-            for place in 0..=plan.places() {
-                calls.push(Call::Refine {
-                    job: job.clone(),
-                    sizing: x.clone(),
-                    place,
-                    ends: marked(10),
-                });
-            }
-            calls.extend(sizings.iter().map(|y| Call::Choose {
-                job: job.clone(),
-                x: x.clone(),
-                y: y.clone(),
-            }));
         }
-        let exact = 8 * (1 + plan.places());
-        calls.extend([exact - 1, exact, exact + 3].map(|length| Call::Size {
+        calls.extend(sizings.iter().map(|y| Call::Choose {
             job: job.clone(),
-            reply: marked(length),
+            x: x.clone(),
+            y: y.clone(),
         }));
     }
+    let exact = 8 * (1 + plan.places());
+    calls.extend([exact - 1, exact, exact + 3].map(|length| Call::Size {
+        job: job.clone(),
+        reply: marked(length),
+    }));
+    calls
+}
+
+/// The calls for the worked jobs: every sizing, every place, every pair.
+pub fn worked_calls() -> Vec<Call> {
+    let mut calls: Vec<Call> = worked::named().iter().flat_map(|(_, plan)| plan_calls(plan)).collect();
     calls.extend(worked::refused().into_iter().map(|(job, _)| a_roomy_size(&job)));
+    calls
+}
+
+/// The same for the worked jobs of two layers.
+pub fn layered_calls() -> Vec<Call> {
+    let mut calls: Vec<Call> = [0, 1]
+        .into_iter()
+        .flat_map(|layer| plan_calls(&worked::on_layer(layer)))
+        .collect();
+    calls.extend(worked::layered().into_iter().map(|(job, _)| a_roomy_size(&job)));
     calls
 }

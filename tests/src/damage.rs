@@ -212,7 +212,7 @@ fn size_beyond(random: &mut Random, job: &mut Vec<u8>) {
     put_beyond(random, job, 2, field, 100_000);
 }
 
-/// Copies a table field from one row to the next, or swaps them, so that the order is lost.
+/// Copies a table field from one row to the next, or swaps them, so that the order is lost, unless the two are of different layers.
 fn disorder(random: &mut Random, job: &mut Vec<u8>) {
     let kind = random.between(1, 2) as u8;
     let found = records(job, kind);

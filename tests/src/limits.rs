@@ -354,8 +354,8 @@ fn two_layers() -> Plan {
     plan
 }
 
-/// Question 24 in each of its ways, before 3 and after 2, and the other questions in layer 1 alone: what is changed in the job of
-/// two layers, and its number then.
+/// Question 24 in each of its ways, before 3 and after 2, and the other questions where layers change them: what is changed in the
+/// job of two layers, and its number then.
 const LAYERS: [(&str, u64, Change); 45] = [
     ("nothing", 0, |_| ()),
     ("layer 1 not named", 0, |job| job[16 * 9 + 15] = 0),

@@ -51,14 +51,6 @@ impl Plan {
         }
     }
 
-    /// How many widths the layer of a segment has.
-    pub fn widths_of(&self, segment: usize) -> usize {
-        match self.segments[segment].layer {
-            0 => self.widths.len(),
-            _ => self.thick.len(),
-        }
-    }
-
     /// The job's bytes, with the numbers counted from 0 in each kind, those of widths in each layer.
     pub fn bytes(&self) -> Vec<u8> {
         let mut job = Vec::new();

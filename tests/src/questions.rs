@@ -230,6 +230,25 @@ pub fn stray_sink_alone(job: &[u8]) -> bool {
         && of_kind(job, 4).into_iter().any(has_stray_sink)
 }
 
+/// Whether a job fails question 3, 4, 7 or 10 for layer 1 alone: without the widths of layer 1, for 10 without its segments, it
+/// would pass it.
+pub fn fails_in_layer_1(job: &[u8], number: u64) -> bool {
+    let (question, kind, layer_byte): (Question, u8, usize) = match number {
+        3 => (question_3, 1, 2),
+        4 => (question_4, 1, 2),
+        7 => (question_7, 1, 2),
+        10 => (question_10, 4, 15),
+        _ => return false,
+    };
+    let rest: Vec<u8> = job
+        .chunks_exact(RECORD)
+        .filter(|record| record[0] != kind || record[layer_byte] != 1)
+        .flatten()
+        .copied()
+        .collect();
+    !question(job) && question(&rest)
+}
+
 /// A question of a job, and whether its answer is yes.
 type Question = fn(&[u8]) -> bool;
 

@@ -70,10 +70,15 @@ pub fn named() -> Vec<(&'static str, Plan)> {
     vec![("j1", j1()), ("j2", j2()), ("j3", j3()), ("j4", j4()), ("j5", j5())]
 }
 
+/// J1 with nine widths.
+fn nine_widths() -> Plan {
+    let mut plan = j1();
+    plan.widths = (0..9).map(|i| [20 - i, 1 + i]).collect();
+    plan
+}
+
 /// The six refused jobs of the specification, each with its number.
 pub fn refused() -> Vec<(Vec<u8>, u64)> {
-    let mut nine_widths = j1();
-    nine_widths.widths = (0..9).map(|i| [20 - i, 1 + i]).collect();
     let mut stray_and_zero = j1().bytes();
     stray_and_zero[3] = 1;
     stray_and_zero[4] = 0;
@@ -83,9 +88,42 @@ pub fn refused() -> Vec<(Vec<u8>, u64)> {
         (Vec::new(), 1),
         (vec![0; 17], 1),
         (vec![0; 16], 2),
-        (nine_widths.bytes(), 3),
+        (nine_widths().bytes(), 3),
         (stray_and_zero, 5),
         (equal.bytes(), 7),
+    ]
+}
+
+/// J1 with two widths of layer 1, (3, 4) and (1, 7), and its segment on a layer. Widths are the records 0 to 3, the segment is 6.
+pub fn on_layer(layer: u8) -> Plan {
+    let mut plan = j1();
+    plan.thick = vec![[3, 4], [1, 7]];
+    plan.segments[0].layer = layer;
+    plan
+}
+
+/// Jobs of two layers, each with its number: one that passes, question 24 in each of its ways, behind 2 and before 3, and 3, 4, 7
+/// and 10 where layers change them.
+pub fn layered() -> Vec<(Vec<u8>, u64)> {
+    let with = |plan: Plan, bytes: &[(usize, u8)]| {
+        let mut job = plan.bytes();
+        bytes.iter().for_each(|&(at, byte)| job[at] = byte);
+        job
+    };
+    let mut no_first = on_layer(1);
+    no_first.widths.clear();
+    vec![
+        (with(on_layer(1), &[]), 0),
+        (with(on_layer(1), &[(50, 2)]), 24),
+        (with(on_layer(1), &[(111, 2)]), 24),
+        (with(on_layer(1), &[(2, 1)]), 24),
+        (with(j1(), &[(79, 1)]), 24),
+        (with(on_layer(1), &[(0, 5), (50, 2)]), 2),
+        (with(nine_widths(), &[(191, 2)]), 24),
+        (with(no_first, &[]), 3),
+        (with(on_layer(1), &[(33, 2), (49, 3)]), 4),
+        (with(on_layer(1), &[(52, 3)]), 7),
+        (with(on_layer(1), &[(110, 2)]), 10),
     ]
 }
 

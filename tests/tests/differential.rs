@@ -2,8 +2,8 @@
 #![cfg(feature = "library")]
 
 use numlejka_tests::batches::{
-    BOTH_LAYERS, Counts, LAYER_FAULTS, MOST_ALLOWED, ONE_BEST, ONE_INDEX, OUTPUTS, STRAY_SINK, TIE, count, damaged_calls,
-    large_calls, largest_calls, length_calls, limit_calls, room_calls, small_calls, worked_calls,
+    BOTH_LAYERS, Counts, LAYER_1, LAYER_FAULTS, MOST_ALLOWED, ONE_BEST, ONE_INDEX, OUTPUTS, STRAY_SINK, TIE, count,
+    damaged_calls, large_calls, largest_calls, layered_calls, length_calls, limit_calls, room_calls, small_calls, worked_calls,
 };
 use numlejka_tests::calls::{Call, expected, hex};
 use numlejka_tests::interface::run;
@@ -68,7 +68,7 @@ fn more_small_jobs() {
 }
 
 /// Jobs with one to three damages over all four operations; a stray sink alone comes with each of 6 to 10, and no other number;
-/// 24 comes in each of its ways alone.
+/// 24 comes in each of its ways alone, and 3, 4, 7 and 10 come for layer 1 alone.
 #[test]
 fn damaged_jobs() {
     let mut random = Random::new(23);
@@ -81,6 +81,9 @@ fn damaged_jobs() {
     }
     for way in LAYER_FAULTS {
         assert!(counts[&(way, 24)] >= 300, "{way}");
+    }
+    for number in [3, 4, 7, 10] {
+        assert!(counts[&(LAYER_1, number)] >= 100, "{number} for layer 1 alone");
     }
 }
 
@@ -126,6 +129,12 @@ fn jobs_around_the_largest_room() {
 #[test]
 fn worked_jobs() {
     compare_all("worked jobs", worked_calls().into_iter());
+}
+
+/// The worked jobs of two layers: every sizing, place and pair.
+#[test]
+fn worked_layers() {
+    compare_all("worked layers", layered_calls().into_iter());
 }
 
 /// One call alone, given as text in `CALL`.

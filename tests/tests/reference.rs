@@ -1,7 +1,7 @@
 //! Tests of the reference itself: the worked jobs, the two ways to the bounds, the limits, and what the generators reach.
 
 use numlejka_tests::batches::{
-    Counts, LAYER_FAULTS, MOST_ALLOWED, STRAY_SINK, count_expected, damaged_calls, limit_calls, room_calls, small_calls,
+    Counts, LAYER_1, LAYER_FAULTS, MOST_ALLOWED, STRAY_SINK, count_expected, damaged_calls, limit_calls, room_calls, small_calls,
     worked_calls,
 };
 use numlejka_tests::calls::Call;
@@ -15,7 +15,7 @@ use numlejka_tests::reference::{
     room, scaled_delay, size,
 };
 use numlejka_tests::reference_bounds::{SWEPT, least_between, swept_bounds};
-use numlejka_tests::worked::{clock, j1, j2, j3, j4, j5, refused, weightless};
+use numlejka_tests::worked::{clock, j1, j2, j3, j4, j5, layered, on_layer, refused, weightless};
 
 /// The net of a plan that passes its questions.
 fn net_of(plan: &Plan) -> Net {
@@ -110,6 +110,17 @@ fn each_load_is_counted_once() {
     assert_eq!(load(&[0, 1, 2, 0, 0, 1]), 9_667);
     assert_eq!(load(&[0, 0, 1, 0, 0, 0]), 8_644);
     assert_eq!(load(&[0, 2, 2, 1, 1, 1]), 10_688);
+}
+
+/// J1 on two layers: the delays are those of the rows of its segment's layer; and the numbers of the worked jobs of two layers.
+#[test]
+fn layers_have_rows_of_their_own() {
+    let delays = |layer: u8| [0, 1].map(|width| delay(&on_layer(layer), &[0, width]));
+    assert_eq!(delays(0), [208, 206]);
+    assert_eq!(delays(1), [242, 277]);
+    for (job, number) in layered() {
+        assert_eq!(first_no(&job), number, "{job:?}");
+    }
 }
 
 /// Both ends of a tie reach its delay, and an index between them may be worse.
@@ -312,7 +323,7 @@ fn the_clock_net_is_answered() {
 }
 
 /// The generated calls reach every number of every operation, and no other; a stray sink alone each of 6 to 10, and no other;
-/// 24 in each of its ways.
+/// 24 in each of its ways; and 3, 4, 7 and 10 for layer 1 alone.
 #[test]
 fn every_number_is_reached() {
     let mut counts = Counts::new();
@@ -338,6 +349,7 @@ fn every_number_is_reached() {
     for way in LAYER_FAULTS {
         assert!(counts.keys().any(|key| key.0 == way), "{way}");
     }
+    assert_eq!(reached(LAYER_1), [3, 4, 7, 10]);
 }
 
 /// A call that is printed can be run again.

@@ -68,10 +68,7 @@ pub fn segment_word(job: &[u8], counts: Counts, i: usize, at: usize) -> u64
     requires { ⌜ (i < counts .segments) × (at ≤ 12) ⌝ }
     ensures { λ r. ⌜ (r ≡ word (now (job .entry)) (segmentAt counts i + at)) × (r < 2 ^ 32) ⌝ }
 {
-    word_at(
-        job,
-        16 * (counts.widths + counts.sizes + (counts.stages + i)) + at,
-    )
+    place_word(job, counts, counts.stages + i, at)
 }
 
 // The node that segment i hangs at.
@@ -130,7 +127,7 @@ pub fn place_word(job: &[u8], counts: Counts, p: usize, at: usize) -> u64
     word_at(job, 16 * (counts.widths + counts.sizes + p) + at)
 }
 
-// Where among the widths the table of place p's layer starts. A stage has no layer, and the byte zero.
+// Where among the widths the table of place p's layer starts. A stage has no layer, and its byte there is zero.
 pub fn first_row(job: &[u8], counts: Counts, p: usize) -> usize
     requires { ⌜ Held counts (now job) ⌝ }
     requires { ⌜ p < placesBy counts ⌝ }

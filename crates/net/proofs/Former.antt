@@ -65,8 +65,8 @@ module _ (c : Counts) (b : List ℕ) where
   clause = rw (and-assoc, and-assoc)
 
 -- The questions of a job with the clause: that question in the place of question 5, the sixth.
-unfoldable pub formerJobQuestions : List ℕ → List Question
-formerJobQuestions b = set (jobQuestions b) 5 (ask 5 (question5WithClause (countsOf b) b))
+unfoldable pub questionsWithClause : List ℕ → List Question
+questionsWithClause b = set (jobQuestions b) 5 (ask 5 (question5WithClause (countsOf b) b))
 
 -- A capacitance or a weight at a segment whose sink byte is 0.
 pub record StraySink (c : Counts) (b : List ℕ) : Type 0 where
@@ -75,7 +75,7 @@ pub record StraySink (c : Counts) (b : List ℕ) : Type 0 where
   pub sinkless : segmentSink c b segment ≡ 0
   pub figure : (0 < sinkCapacitance c b segment) ⊎ (0 < sinkWeight c b segment)
 
--- A job that failed the former question 5 for this alone: it passes 1, 2, 24, 3 and 4, and its unnamed bytes are zero.
+-- A job that fails question 5 with the clause for this alone: it passes 1, 2, 24, 3 and 4, and its unnamed bytes are zero.
 pub record StraySinkAlone (job : List ℕ) : Type 0 where
   pub one : T (question1 job)
   pub two : T (question2 job)
@@ -97,12 +97,12 @@ pub are-6-to-10 : map refusal strayJobs ≡ 6 ∷ 7 ∷ 8 ∷ 9 ∷ 10 ∷ []
 unfolding every countIf countsOf widthsOf firstRow question1 question2 question24 question3 question4 zeros question5 question6 question7 question8 question9 sinkOrZero question10 firstNo jobQuestions refusal littleEndian
 are-6-to-10 = refl
 
-pub all-were-5 : map (λ job. firstNo (formerJobQuestions job)) strayJobs ≡ 5 ∷ 5 ∷ 5 ∷ 5 ∷ 5 ∷ []
-unfolding every countIf countsOf widthsOf firstRow question1 question2 question24 question3 question4 zeros sinkOrZero question5WithClause firstNo jobQuestions formerJobQuestions littleEndian
+pub all-were-5 : map (λ job. firstNo (questionsWithClause job)) strayJobs ≡ 5 ∷ 5 ∷ 5 ∷ 5 ∷ 5 ∷ []
+unfolding every countIf countsOf widthsOf firstRow question1 question2 question24 question3 question4 zeros sinkOrZero question5WithClause firstNo jobQuestions questionsWithClause littleEndian
 all-were-5 = refl
 
 module _ {c : Counts} {b : List ℕ} where
-  -- at a stray sink the clause fails, of the former question 5 and of question 10
+  -- at a stray sink the clause fails, in question 5 and in question 10
   stray-fails : (y : StraySink c b) → sinkOrZero c b (y .segment) ≡ false
   unfolding sinkOrZero
   stray-fails y = go (y .figure)
@@ -165,19 +165,19 @@ module _ (job : List ℕ) where
 
   -- An operation asks the job's questions and then its own, whichever these are.
   module _ (own : List Question) where
-    -- A job that failed the former question 5 for this alone was refused with 5.
-    pub was-5 : StraySinkAlone job → firstNo (formerJobQuestions job ++ own) ≡ 5
-    unfolding formerJobQuestions jobQuestions
+    -- With the clause in question 5 a job that fails it for this alone is refused with 5.
+    pub was-5 : StraySinkAlone job → firstNo (questionsWithClause job ++ own) ≡ 5
+    unfolding questionsWithClause jobQuestions
     was-5 a = past-4 a _ ∙ firstNo-no 5 _ (question5WithClause c job) (rw (clause c job, clause-fails (a .stray)) (and-false (question5 c job)))
 
-    -- It is now refused with the first of 6 to 9 that it fails, or else with 10.
+    -- Without it, it is refused with the first of 6 to 9 that it fails, or else with 10.
     pub is-6-to-10 : StraySinkAlone job → firstNo (jobQuestions job ++ own) ≡ sixToNineOr10
     unfolding jobQuestions
     is-6-to-10 a = past-4 a _ ∙ firstNo-yes 5 _ (question5 c job) (is-true (question5 c job) (unnamed-only c job .1 (a .unnamed))) ∙ at-10 (question10 c job) _ (question10-fails (a .stray))
 
-    -- Every other job gets the number that it got.
-    pub others-same : (StraySinkAlone job → ⊥) → firstNo (jobQuestions job ++ own) ≡ firstNo (formerJobQuestions job ++ own)
-    unfolding jobQuestions formerJobQuestions
+    -- Every other job gets the number that it gets with the clause.
+    pub others-same : (StraySinkAlone job → ⊥) → firstNo (jobQuestions job ++ own) ≡ firstNo (questionsWithClause job ++ own)
+    unfolding jobQuestions questionsWithClause
     others-same n = rw (clause c job) (same-first _ _ _ _ _ _ _ _ holds)
       where
         holds : T (question1 job) → T (question2 job) → T (question24 c job) → T (question3 c) → T (question4 c job) → T (question5 c job) → T (every (c .segments) (sinkOrZero c job))

@@ -1,4 +1,3 @@
-pub mod Layered
 pub mod Sum
 pub mod Forest
 pub mod Branches
@@ -8,12 +7,13 @@ pub mod Dominance
 pub mod Bound
 pub mod Places
 pub mod Records
-pub mod Unnamed
 pub mod Questions
 pub mod Answers
 pub mod Ties
 pub mod Demands
 pub mod Promises
+pub mod Unnamed
 pub mod Former
 pub mod OneLayer
 pub mod Starred
+pub mod Layered

@@ -14,7 +14,7 @@ use Rattle.lattice.specs.Lists.{every}
 use Rattle.lattice.proofs.ListLaws.{is-true, and-T, every-at, at-every}
 use Rattle.lattice.proofs.Every.{every-same}
 use Rattle.net.specs.declared.Counts.{Counts}
-use Rattle.net.specs.Job.{byte, records, kind, countIf, count, countsOf, widthAt, widthLayer, widthsOf, firstRow, sizeAt, stageAt, segmentAt, placeAt, rowResistance, rowCapacitance, sizeResistance, sizeGate, sizeOutput, segmentParent, segmentSink, segmentLength, sinkCapacitance, sinkWeight, segmentLowest, segmentHighest, segmentLayer}
+use Rattle.net.specs.Job.{byte, records, kind, countIf, countsOf, widthAt, widthLayer, widthsOf, firstRow, sizeAt, stageAt, segmentAt, placeAt, rowResistance, rowCapacitance, sizeResistance, sizeGate, sizeOutput, segmentParent, segmentSink, segmentLength, sinkCapacitance, sinkWeight, segmentLowest, segmentHighest, segmentLayer}
 use Rattle.net.specs.Net.{Net, netOf}
 use Rattle.net.specs.Questions.{inRange, question1, question2, question24, question3, question4, zeros, question5, question6, question7, question8, question9, sinkOrZero, question10, question11, Question, ask, firstNo, jobQuestions}
 use Rattle.net.proofs.Records.{never-falls, counts-each, counts-alike, counts-grow, counts-fill, layer-0, layer-1}

@@ -77,7 +77,7 @@ stageAt c s = placeAt c s
 abbrev pub segmentAt : Counts → ℕ → ℕ
 segmentAt c i = placeAt c (c .stages + i)
 
--- The fields of width k, of those of both layers.
+-- The fields of width k, counted through both layers.
 abbrev pub rowResistance : List ℕ → ℕ → ℕ
 rowResistance b k = word b (widthAt k + 4)
 

@@ -39,7 +39,7 @@ module _ (net : Net) (w u k l : ℕ) (r : PlaceStep) where
       let e : net .stages + i - net .stages ≡ i = omega arith in
       record { delay = rw (le-ltb (net .stages + i) (net .stages) h, e) d; load = rw (le-ltb (net .stages + i) (net .stages) h, e) g; fits = f }
 
--- By cases: a stage, a segment.
+-- Where the table and the length of a segment stand, by its place.
 module _ (c : Counts) (b : List ℕ) where
   pub rows-segment : (p : ℕ) → c .stages ≤ p → rowsAt c b p ≡ firstRow c (segmentLayer c b (p - c .stages))
   rows-segment p h = let e : c .stages + (p - c .stages) ≡ p = omega arith in rw e
@@ -54,6 +54,7 @@ width-at {c} {b} k p h l =
     let e : c .stages + (p - c .stages) ≡ p = omega arith in
     subst (λ q. netBy c b .highest q < widthsOf c (segmentLayer c b (p - c .stages))) e (k .wired (p - c .stages) (omega arith))
 
+-- By cases: a stage, a segment.
 module _ (net : Net) where
   pub hangs-stage : (p : ℕ) → p < net .stages → hangsAt net p ≡ p
   unfolding hangsAt

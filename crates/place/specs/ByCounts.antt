@@ -30,7 +30,7 @@ module _ (c : Counts) (b : List ℕ) where
   abbrev pub DriveInLimits : ℕ → ℕ → ℕ → Type 0
   DriveInLimits p k l = (p < placesBy c) × (k ≤ netBy c b .highest p) × (l ≤ 12900000)
 
-  -- Where the table of place p's layer starts; a stage has no layer, and the byte zero.
+  -- Where the table of place p's layer starts; a stage has no layer, and its byte there is zero.
   abbrev pub rowsAt : ℕ → ℕ
   rowsAt p = firstRow c (byte b (placeAt c p + 15))
 

@@ -70,7 +70,7 @@ module _ (b : List ℕ) where
   abbrev pub sinkOrBranch : List ℕ → ℕ → ℕ → ℕ → Bool
   sinkOrBranch first start n k = not (eqb (byteOf start 3 k) 0) || ltb (getD first (k + 1) 0) n
 
-  -- How many of the first n records have the layer byte 0 of a width.
+  -- How many of the first n records, read as widths, are of layer 0.
   abbrev pub layer0In : ℕ → ℕ
   layer0In n = countIf (λ r. eqb (widthLayer b r) 0) n
 

@@ -9,8 +9,8 @@ ghost use Prim.Native.Nat.{_<_, _≤_};
 ghost use lib.ListN.{length};
 ghost use Rattle.envelope.specs.Kept.{found};
 ghost use Rattle.net.specs.Job.{placesBy};
-ghost use Rattle.net.specs.Checked.{Checked, AllowedBy, ForPlaces};
-ghost use Rattle.place.specs.ByCounts.{Weighed, rowsAt, LengthAt, StepInLimits, Driven};
+ghost use Rattle.net.specs.Checked.{Checked, ForPlaces};
+ghost use Rattle.place.specs.ByCounts.{rowsAt, LengthAt, StepInLimits};
 ghost use Rattle.search.specs.Searching.{Bounds, Prepared, LastFree, MoreFree, BothLong, Skipped, AllFit, PassedBy, PassedAt, SizedBy, arrivesAt, Lifted, SearchedFrom, takenBetween};
 
 // The node at which a load at `node` arrives, through the held segments above it.

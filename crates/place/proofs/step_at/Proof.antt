@@ -1,4 +1,4 @@
--- `place::step_at` meets its contract: the layer is read for this one step.
+-- `place::step_at` meets its contract: the layer and the length are read for this one step.
 use borrow.Author.Needs.{needs}
 use Rattle.place.proofs.step_at.Statement.{statement}
 use Rattle.place.proofs.step_at.Tie as tie
