@@ -30,7 +30,7 @@ pub fn settle(
 {
     let rows = job::first_row(job, counts, place);
     let length = job::place_word(job, counts, place, 4);
-    let top = job::index(job::highest(job, counts, place));
+    let top = job::highest(job, counts, place);
     let mut lowest = job::index(job::lowest(job, counts, place));
     let mut highest = lowest;
     let mut least = place::step_to(
@@ -44,7 +44,10 @@ pub fn settle(
         lowest,
         driven,
     ).delay;
-    for k in lowest + 1..top + 1 {
+    let mut k = lowest;
+    // compared as a byte, as `top` is: the loop then counts with k alone
+    while (k as u8) < top {
+        k += 1;
         let cost = place::step_to(
             job,
             counts,
