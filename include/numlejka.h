@@ -1,21 +1,22 @@
 /*
  * Numlejka: least-delay sizing of a driven routing tree.
  *
- * A job is a byte buffer of records of 16 bytes; a place is a stage or a segment of the job, and P is the number of
- * its places; a sizing is P bytes, one index for each place. docs/specification.md has the formats of jobs and replies,
- * and what every figure and number means.
+ * A job is a byte buffer of records of 16 bytes; a place is a stage, a segment or a repeater of the job, and P is the
+ * number of its places, at most 76; a sizing is P bytes, one index for each place: the stages' first, then the segments',
+ * then the repeaters'. docs/specification.md has the formats of jobs and replies, and what every figure and number means.
  *
  * Numbers. Each function but numlejka_choose returns 0 where it has answered, and otherwise the number of the first
- * question whose answer is no. They are asked in this order, so 24 comes after 2 and before 3:
+ * question whose answer is no. They are asked in this order, so 24 comes after 2 and before 3, and 22 and 23 come after
+ * 11 and before 12 and 15:
  *
  *   number  question                                                                                  asked by
  *      0    (answered)
  *      1    Is the length above 0 and a multiple of 16?                                               all
- *      2    Is every kind 1 to 4, and does the kind never fall from one record to the next?           all
+ *      2    Is every kind 1 to 5, and does the kind never fall from one record to the next?           all
  *     24    Is every layer byte 0 or 1, does the layer never fall from one width to the next, and
  *           has layer 1 a width where a segment names it?                                             all
  *      3    Are there 1 to 8 widths of layer 0 and at most 8 of layer 1, 1 to 16 sizes, 1 to 4
- *           stages, 1 to 64 segments?                                                                 all
+ *           stages, 1 to 64 segments, at most 8 repeaters?                                            all
  *      4    Do the numbers count from 0 in each kind, those of widths in each layer?                  all
  *      5    Are all unnamed bytes zero?                                                               all
  *      6    Are the values of widths and sizes in range?                                              all
@@ -27,6 +28,9 @@
  *     10    Are the segments' fields in range, capacitance and weight 0 where there is no sink, and
  *           lowest at most highest, which is below the count of widths of the segment's layer?        all
  *     11    Has every segment without branches a sink?                                                all
+ *     22    Is every repeater's segment there, has it branches, and does its number strictly rise
+ *           from one repeater to the next?                                                            all
+ *     23    Is every repeater's lowest at most its highest, which is below the count of sizes?        all
  *     12    Does the reply buffer hold 8 * (1 + P) bytes?                                             size
  *     14    Is room at most 65,536?                                                                   size
  *     15    Is each sizing at least P bytes long? Later bytes make no difference to the answer.       measure, refine, choose
@@ -47,9 +51,9 @@
  * Threads. The library keeps no state and allocates nothing. Any number of calls may run at the same time, as long as
  * nothing writes to a buffer that a running call reads, and nothing uses a buffer that a running call writes to.
  *
- * Stack. A call needs at most 24 KiB of stack. Measured on painted stacks, on x86-64 Linux, with a chain of 64 segments
- * behind 4 stages and 16 places free, the deepest net and the deepest search that there are: measure and choose 19 KiB,
- * size 13 KiB, refine 3 KiB. The rest is margin; it covers what the dynamic linker may use when the C library's memcpy is
+ * Stack. A call needs at most 32 KiB of stack. Measured on painted stacks, on x86-64 Linux, with a chain of 64 segments
+ * behind 4 stages and 16 places free, the deepest net and the deepest search that there are: measure and choose 24 KiB,
+ * size 15 KiB, refine 6 KiB. The rest is margin; it covers what the dynamic linker may use when the C library's memcpy is
  * called for the first time (3 KiB more). tests/tests/stack.rs measures it again.
  *
  * Time. A call ends on every input. How long it takes depends on the job and is not promised.
@@ -66,13 +70,14 @@
 extern "C" {
 #endif
 
-/* A reply buffer of this length holds the reply of every job: 8 * (1 + 68) bytes. */
-#define NUMLEJKA_REPLY_LENGTH 552
+/* A reply buffer of this length holds the reply of every job: 8 * (1 + 76) bytes. */
+#define NUMLEJKA_REPLY_LENGTH 616
 
 /*
  * Measures a sizing. Returns the number; with 0 the scaled delay of the sizing is in *delay and its load figure in
  * *load, with every other number both are as they were. The load figure is the capacitance of all wires, all sinks, the
- * gates of stages 1 and up, and the outputs of all stages, stage 0 included, each once.
+ * gates of stages 1 and up, the outputs of all stages, stage 0 included, and the gates and outputs of all repeaters, each
+ * once.
  */
 size_t numlejka_measure(const uint8_t *job, size_t job_length,
                         const uint8_t *sizing, size_t sizing_length,
@@ -99,7 +104,7 @@ size_t numlejka_choose(const uint8_t *job, size_t job_length,
 
 /*
  * Sizes a job. Returns the number. With 0 the first 8 * (1 + P) bytes of the buffer are the reply: eight bytes with
- * the least scaled delay, the lowest byte first, then for each place, stages first, the eight bytes
+ * the least scaled delay, the lowest byte first, then for each place, stages, segments and repeaters, the eight bytes
  * lower bound, upper bound, lean, wide, 0, 0, 0, 0. With 14 the reply has the bounds, and the delay's eight bytes,
  * lean and wide are all 255. The bytes behind the reply are as they were. With every other number the whole buffer is
  * as it was.

@@ -63,8 +63,8 @@ def random_segment(rng, number, parent, leaf, widths):
     return head + bytes([weight, *random_range(rng, widths[layer]), layer])
 
 
-def random_job(rng, most_of_layer_1):
-    """Gives a job that passes questions 1 to 11 and 24."""
+def random_job(rng, most_of_layer_1, most_repeaters=0):
+    """Gives a job that passes questions 1 to 11 and 22 to 24."""
     sizes, stages, segments = (rng.randint(1, most) for most in (16, 4, 64))
     widths = [rng.randint(1, 8), rng.randint(0, most_of_layer_1)]
     records = [
@@ -82,12 +82,15 @@ def random_job(rng, most_of_layer_1):
     parents = [rng.randint(0, at) for at in range(segments)]
     for at, parent in enumerate(parents):
         records.append(random_segment(rng, at, parent, at + 1 not in parents, widths))
+    sites = [at for at in range(segments) if at + 1 in parents]
+    repeaters = sorted(rng.sample(sites, rng.randint(0, min(most_repeaters, len(sites)))))
+    records += [bytes([5, at, site, *random_range(rng, sizes)]) + bytes(11) for at, site in enumerate(repeaters)]
     return b"".join(records)
 
 
 def random_record(rng, counts):
     """Gives a record near a valid one: most bytes zero, most numbers in order."""
-    kind = rng.choice([1, 2, 3, 4, 4, 4, rng.randrange(256)])
+    kind = rng.choice([1, 2, 3, 4, 4, 4, 5, rng.randrange(256)])
     record = bytearray(16)
     record[0] = kind
     for _ in range(rng.randrange(6)):
@@ -109,7 +112,7 @@ class Examples(unittest.TestCase):
 
     def test_all_there(self):
         names = {path.stem for path in EXAMPLES.glob("*.txt")}
-        self.assertLessEqual({"j1", "j2", "j3", "j4", "j5", "clock", "two_layers"}, names)
+        self.assertLessEqual({"j1", "j2", "j3", "j4", "j5", "clock", "two_layers", "repeaters"}, names)
 
     def test_text_gives_job(self):
         for path in EXAMPLES.glob("*.txt"):
@@ -138,6 +141,16 @@ class Examples(unittest.TestCase):
         widths = [(0, 0), (1, 0), (2, 0), (3, 0), (4, 0), (0, 1), (1, 1), (2, 1), (3, 1)]
         self.assertEqual([(record[1], record[2]) for record in records if record[0] == 1], widths)
         self.assertEqual([record[15] for record in records if record[0] == 4], [1] * 2 + [0] * 14)
+
+    def test_repeaters(self):
+        data = (EXAMPLES / "repeaters.job").read_bytes()
+        records = [data[at : at + 16] for at in range(0, len(data), 16)]
+        self.assertEqual([record[0] for record in records[-5:]], [4, 5, 5, 5, 5])
+        repeaters = records[-4:]
+        self.assertEqual([record[1] for record in repeaters], [0, 1, 2, 3])
+        parents = [record[2] for record in records if record[0] == 4]
+        for site in (record[2] for record in repeaters):
+            self.assertIn(1 + site, parents)
 
 
 class Text(unittest.TestCase):
@@ -193,13 +206,17 @@ WIDTHS = "width resistance 4 capacitance 2\nwidth resistance 2 capacitance 3\n"
 THICK = "width layer 1 resistance 3 capacitance 1\nwidth layer 1 resistance 1 capacitance 5\n"
 
 
-class Layers(unittest.TestCase):
-    """The layer of a width and of a segment."""
+class Exact(unittest.TestCase):
+    """Texts and their bytes."""
 
     def gives(self, text, expected):
         """Asks that a text gives these bytes and comes back from them as it was."""
         self.assertEqual(job.pack(text), bytes.fromhex(expected))
         self.assertEqual(job.unpack(job.pack(text)), text)
+
+
+class Layers(Exact):
+    """The layer of a width and of a segment."""
 
     def test_one_layer(self):
         self.gives(
@@ -285,6 +302,57 @@ class Layers(unittest.TestCase):
             job.pack(WIDTHS + "width layer 1 resistance 1 capacitance 1\n" * 257)
 
 
+class Repeaters(Exact):
+    """The lines of repeaters."""
+
+    def test_behind_the_segments(self):
+        self.gives(
+            "segment parent source length 1 width 0\n"
+            "segment parent 0 length 1 width 0 sink capacitance 4 weight 1\n"
+            "repeater segment 0 sizes 0..2\n"
+            "repeater segment 3 size 1\n",
+            """
+            04 00 00 00  01 00 00 00  00 00 00 00  00 00 00 00
+            04 01 01 01  01 00 00 00  04 00 00 00  01 00 00 00
+            05 00 00 00  02 00 00 00  00 00 00 00  00 00 00 00
+            05 01 03 01  01 00 00 00  00 00 00 00  00 00 00 00""",
+        )
+
+    def test_segment_is_its_number(self):
+        self.assertEqual([job.pack(f"repeater segment {at} size 0")[2] for at in (0, 1, 63, 255)], [0, 1, 63, 255])
+
+    def test_in_any_order(self):
+        self.assertEqual(job.pack("repeater sizes 0..2 segment 3"), job.pack("repeater segment 3 sizes 0..2"))
+        self.assertEqual(job.unpack(job.pack("repeater sizes 2..2 segment 3")), "repeater segment 3 size 2\n")
+
+    def test_to_be_refused(self):
+        self.gives("repeater segment 64 sizes 9..2\n", "05 00 40 09 02" + " 00" * 11)
+        self.gives("repeater segment 255 sizes 0..255\n", "05 00 ff 00 ff" + " 00" * 11)
+        self.gives(
+            "repeater segment 1 size 0\nrepeater segment 1 size 0\nrepeater segment 0 size 0\n",
+            "05 00 01 00" + " 00" * 12 + "05 01 01 00" + " 00" * 12 + "05 02 00 00" + " 00" * 12,
+        )
+        self.gives(
+            "repeater segment 0 size 0\nsegment parent source length 1 width 0\n",
+            "05 00" + " 00" * 14 + "04 00 00 00 01" + " 00" * 11,
+        )
+
+    def test_numbered_by_themselves(self):
+        text = "stage size 0\n" + "segment parent source length 1 width 0\n" * 3 + "repeater segment 0 size 0\n" * 2
+        self.assertEqual([job.pack(text)[at] for at in (1, 17, 33, 49, 65, 81)], [0, 0, 1, 2, 0, 1])
+
+    def test_unnamed_bytes_are_raw(self):
+        for at in range(5, 16):
+            data = bytes([5, 0, 3, 0, 2] + [0] * 11)
+            data = data[:at] + b"\1" + data[at + 1 :]
+            self.assertEqual(job.unpack(data), "raw " + data.hex(" ") + "\n")
+            self.assertEqual(job.pack(job.unpack(data)), data)
+
+    def test_more_than_256(self):
+        with self.assertRaisesRegex(job.Wrong, "^text:257: the number of this repeater, 256, does not fit in 1 byte"):
+            job.pack("repeater segment 0 size 0\n" * 257)
+
+
 class Bytes(unittest.TestCase):
     """Whole records come back as they were."""
 
@@ -322,6 +390,26 @@ class Bytes(unittest.TestCase):
             self.assertEqual(text.count("layer 1"), sum(layers))
             self.assertEqual(text.count("layer"), sum(layers))
 
+    def test_valid_jobs_with_repeaters_need_no_raw(self):
+        rng = random.Random(5)
+        counts = set()
+        for _ in range(500):
+            data = random_job(rng, 8, 8)
+            text = self.returns(data)
+            self.assertNotIn("raw", text)
+            repeaters = [data[at : at + 16] for at in range(0, len(data), 16) if data[at] == 5]
+            lines = [line.split() for line in text.splitlines() if line.startswith("repeater ")]
+            self.assertEqual([int(line[2]) for line in lines], [record[2] for record in repeaters])
+            self.assertTrue(text.splitlines()[-len(lines) - 1].startswith("segment "))
+            counts.add(len(repeaters))
+        self.assertEqual(counts, set(range(9)))
+
+    def test_each_byte_of_a_repeater(self):
+        data = (EXAMPLES / "repeaters.job").read_bytes()
+        for at in range(len(data) - 64, len(data)):
+            for value in (0, 1, 2, 3, 4, 5, 6, 128, 255):
+                self.returns(data[:at] + bytes([value]) + data[at + 1 :])
+
     def test_each_byte_of_an_example(self):
         data = (EXAMPLES / "j4.job").read_bytes()
         for at in range(len(data)):
@@ -351,6 +439,9 @@ class Bytes(unittest.TestCase):
             "raw 04 00 00 00 01 00 00 00 04 00 00 00 01 00 01 00",  # both without sink
             "raw 04 00 00 00 01 00 00 00 00 00 00 80 00 00 01 00",  # highest byte of a capacitance without sink
             "raw 00 00 00 00 00 00 00 00 00 00 00 00 00 00 00 00",  # no kind
+            "raw 05 01 00 00 00 00 00 00 00 00 00 00 00 00 00 00",  # repeater 1 first
+            "raw 05 00 00 00 00 01 00 00 00 00 00 00 00 00 00 00",  # an unnamed byte of a repeater
+            "raw 06 00 00 00 00 00 00 00 00 00 00 00 00 00 00 00",  # a kind behind repeaters
         ):
             self.assertEqual(job.unpack(job.pack(line)), line + "\n")
 
@@ -369,7 +460,7 @@ class Errors(unittest.TestCase):
         self.assertEqual(str(caught.exception), "net.txt:3: " + message)
 
     def test_words(self):
-        self.wrong("widht", "unknown word 'widht'; a line starts with width, size, stage, segment or raw")
+        self.wrong("widht", "unknown word 'widht'; a line starts with width, size, stage, segment, repeater or raw")
         self.wrong(
             "width resistence 4",
             "unknown word 'resistence' after width; its words are layer, resistance, capacitance",
@@ -428,6 +519,22 @@ class Errors(unittest.TestCase):
         )
         self.wrong("stage layer 1 size 0", "unknown word 'layer' after stage; its words are size, sizes")
 
+    def test_repeaters(self):
+        self.wrong("repeater", "repeater lacks its segment")
+        self.wrong("repeater size 0", "repeater lacks its segment")
+        self.wrong("repeater segment 3", "repeater lacks its sizes, as in 'sizes 0..1' or 'size 0'")
+        self.wrong("repeater segment 256 size 0", "segment 256 does not fit in 1 byte (at most 255)")
+        self.wrong("repeater segment source size 0", "segment wants a whole number, not 'source'")
+        self.wrong("repeater segment size 0", "segment has no value")
+        self.wrong("repeater segment 3 segment 3 size 0", "segment twice")
+        self.wrong("repeater segment 3 size 256", "size 256 does not fit in 1 byte (at most 255)")
+        self.wrong("repeater segment 3 size 0..1", "size takes one index; a range is 'sizes 0..1'")
+        self.wrong("repeater segment 3 sizes 0", "sizes wants a range as in 'sizes 0..1', not '0'")
+        self.wrong("repeater segment 3 size 0 sizes 0..1", "size and sizes in one line")
+        self.wrong(
+            "repeater segment 3 width 0", "unknown word 'width' after repeater; its words are segment, size, sizes"
+        )
+
     def test_ranges(self):
         self.wrong("stage size 0..1", "size takes one index; a range is 'sizes 0..1'")
         self.wrong("stage sizes 0", "sizes wants a range as in 'sizes 0..1', not '0'")
@@ -456,6 +563,13 @@ J4_REPLY = bytes.fromhex("0401000000000000 0000000000000000 0001000000000000 000
 J4_TEXT = "delay 260\nstage 0 0 0 0 0\nstage 1 0 1 0 0\nsegment 0 0 1 0 0\n"
 
 
+REPEATED = """stage size 0
+segment parent source length 1 width 0
+segment parent 0 length 1 width 0 sink capacitance 4 weight 1
+repeater segment 0 sizes 0..1
+"""
+
+
 class Replies(unittest.TestCase):
     """Replies as text."""
 
@@ -478,6 +592,17 @@ class Replies(unittest.TestCase):
     def test_bounds_only(self):
         reply = bytes([255] * 8) + bytes.fromhex("0000ffff00000000 0001ffff00000000 0001ffff00000000")
         self.assertEqual(job.reply_text(reply, self.places), "stage 0 0 0 - -\nstage 1 0 1 - -\nsegment 0 0 1 - -\n")
+
+    def test_repeaters_behind_the_segments(self):
+        places = job.places_of(job.pack(REPEATED))
+        reply = bytes.fromhex("0401000000000000" + "0000000000000000" * 3 + "0001000100000000")
+        expected = "delay 260\nstage 0 0 0 0 0\nsegment 0 0 0 0 0\nsegment 1 0 0 0 0\nrepeater 0 0 1 0 1\n"
+        self.assertEqual(job.reply_text(reply, places), expected)
+        bounds = b"\xff" * 8 + bytes.fromhex("0000ffff00000000" * 3 + "0001ffff00000000")
+        expected = "stage 0 0 0 - -\nsegment 0 0 0 - -\nsegment 1 0 0 - -\nrepeater 0 0 1 - -\n"
+        self.assertEqual(job.reply_text(bounds, places), expected)
+        with self.assertRaisesRegex(job.Wrong, "^reply: the reply has 3 places and the job 4$"):
+            job.reply_text(reply[:-8], places)
 
     def test_large_delay(self):
         reply = (2**63 - 1).to_bytes(8, "little") + J4_REPLY[8:]

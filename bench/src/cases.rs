@@ -1,8 +1,9 @@
 //! What is timed.
 
-use crate::jobs::{self, Shape};
+use crate::jobs::{self, Job, Shape};
 
-/// What a case calls. The questions alone are a call of `size` with no room for a reply: it asks 1 to 11 and 24, and answers 12.
+/// What a case calls. The questions alone are a call of `size` with no room for a reply: it asks 1 to 11 and 22 to 24, and
+/// answers 12.
 pub enum Work {
     Questions,
     Measure { sizing: Vec<u8> },
@@ -17,30 +18,35 @@ pub struct Case {
     pub work: Work,
 }
 
-fn questions(name: &str, stages: usize, segments: usize) -> Case {
+/// A net with two segments at each far end.
+fn binary(stages: usize, segments: usize) -> Job {
+    jobs::net(stages, segments, Shape::Binary)
+}
+
+fn questions(name: &str, net: Job) -> Case {
     Case {
         name: format!("questions, {name}"),
-        job: jobs::net(stages, segments, Shape::Binary).bytes(),
+        job: net.bytes(),
         work: Work::Questions,
     }
 }
 
-fn measure(name: &str, stages: usize, segments: usize, shape: Shape) -> Case {
+fn measure(name: &str, net: Job) -> Case {
     Case {
         name: format!("measure, {name}"),
-        job: jobs::net(stages, segments, shape).bytes(),
+        job: net.bytes(),
         work: Work::Measure {
-            sizing: jobs::sizing(stages, segments),
+            sizing: jobs::sizing(&net),
         },
     }
 }
 
-fn refine(name: &str, stages: usize, segments: usize, place: usize) -> Case {
+fn refine(name: &str, net: Job, place: usize) -> Case {
     Case {
         name: format!("refine, {name}"),
-        job: jobs::net(stages, segments, Shape::Binary).bytes(),
+        job: net.bytes(),
         work: Work::Refine {
-            sizing: jobs::sizing(stages, segments),
+            sizing: jobs::sizing(&net),
             place,
         },
     }
@@ -68,31 +74,25 @@ pub fn all() -> Vec<Case> {
     const SEGMENTS: [usize; 5] = [4, 8, 16, 32, 64];
     let mut cases = Vec::new();
     for segments in SEGMENTS {
-        cases.push(questions(&format!("1 stage, {segments} segments"), 1, segments));
+        cases.push(questions(&format!("1 stage, {segments} segments"), binary(1, segments)));
     }
     cases.extend([
-        measure("hardest: 4 stages, 64 segments", 4, 64, Shape::Binary),
-        measure("median: 2 stages, 16 segments", 2, 16, Shape::Binary),
+        measure("hardest: 4 stages, 64 segments", binary(4, 64)),
+        measure("median: 2 stages, 16 segments", binary(2, 16)),
     ]);
     for segments in SEGMENTS {
-        cases.push(measure(&format!("1 stage, {segments} segments"), 1, segments, Shape::Binary));
+        cases.push(measure(&format!("1 stage, {segments} segments"), binary(1, segments)));
     }
-    cases.push(measure("1 stage, 64 segments in a chain", 1, 64, Shape::Chain));
-    cases.push(measure("1 stage, 64 segments at the source", 1, 64, Shape::Star));
+    cases.push(measure("1 stage, 64 segments in a chain", jobs::net(1, 64, Shape::Chain)));
+    cases.push(measure("1 stage, 64 segments at the source", jobs::net(1, 64, Shape::Star)));
     cases.extend([
-        refine("hardest: 4 stages, 64 segments, at the last stage", 4, 64, 3),
-        refine("hardest: 4 stages, 64 segments, at the last segment", 4, 64, 67),
-        refine("median: 2 stages, 16 segments, at the last stage", 2, 16, 1),
-        refine("median: 2 stages, 16 segments, at the last segment", 2, 16, 17),
+        refine("hardest: 4 stages, 64 segments, at the last stage", binary(4, 64), 3),
+        refine("hardest: 4 stages, 64 segments, at the last segment", binary(4, 64), 67),
+        refine("median: 2 stages, 16 segments, at the last stage", binary(2, 16), 1),
+        refine("median: 2 stages, 16 segments, at the last segment", binary(2, 16), 17),
     ]);
-    cases.push(size(
-        "bounds only: 2 stages, 16 segments, room 1",
-        jobs::net(2, 16, Shape::Binary).bytes(),
-    ));
-    cases.push(size(
-        "bounds only: 4 stages, 64 segments, room 1",
-        jobs::net(4, 64, Shape::Binary).bytes(),
-    ));
+    cases.push(size("bounds only: 2 stages, 16 segments, room 1", binary(2, 16).bytes()));
+    cases.push(size("bounds only: 4 stages, 64 segments, room 1", binary(4, 64).bytes()));
     cases.push(size(
         "hardest, first places free, all tie: room 65,536",
         jobs::first_free().bytes(),
@@ -122,14 +122,11 @@ pub fn all() -> Vec<Case> {
         include_bytes!("../../examples/clock.job").to_vec(),
     ));
     let thick = [
-        questions("1 stage, 64 segments", 1, 64),
-        measure("hardest: 4 stages, 64 segments", 4, 64, Shape::Binary),
-        refine("hardest: 4 stages, 64 segments, at the last stage", 4, 64, 3),
-        refine("hardest: 4 stages, 64 segments, at the last segment", 4, 64, 67),
-        size(
-            "bounds only: 4 stages, 64 segments, room 1",
-            jobs::net(4, 64, Shape::Binary).bytes(),
-        ),
+        questions("1 stage, 64 segments", binary(1, 64)),
+        measure("hardest: 4 stages, 64 segments", binary(4, 64)),
+        refine("hardest: 4 stages, 64 segments, at the last stage", binary(4, 64), 3),
+        refine("hardest: 4 stages, 64 segments, at the last segment", binary(4, 64), 67),
+        size("bounds only: 4 stages, 64 segments, room 1", binary(4, 64).bytes()),
     ];
     cases.extend(thick.map(|case| on_two_layers(case, &jobs::THICK)));
     // Both layers have the same rows here, so the room and the delays are those of the case with one layer.
@@ -138,5 +135,25 @@ pub fn all() -> Vec<Case> {
         size("hardest, last segments free, weighted: room 61,740", last.to_vec()),
         &jobs::rows(last),
     ));
+    let repeated = |stages: usize| binary(stages, 64).with_repeaters();
+    cases.extend([
+        questions("1 stage, 64 segments, 8 repeaters", repeated(1)),
+        measure("hardest: 4 stages, 64 segments, 8 repeaters", repeated(4)),
+        refine(
+            "hardest: 4 stages, 64 segments, 8 repeaters, at the last segment",
+            repeated(4),
+            67,
+        ),
+        refine(
+            "hardest: 4 stages, 64 segments, 8 repeaters, at the last repeater",
+            repeated(4),
+            75,
+        ),
+        size("bounds only: 4 stages, 64 segments, 8 repeaters, room 1", repeated(4).bytes()),
+        size(
+            "hardest, 8 repeaters free, weighted: room 65,536",
+            include_bytes!("../jobs/repeaters.job").to_vec(),
+        ),
+    ]);
     cases
 }

@@ -1,9 +1,13 @@
 //! Looks for jobs with weights whose bounds are far apart, and writes them to `jobs/`. Not a part of the timing:
 //! `cargo run --release -- find` was run once.
 
-use crate::jobs::{Job, Random, Segment};
+use crate::jobs::{Job, Random, Repeater, Segment};
 use crate::plain;
 use std::fs;
+
+/// The largest figures of a width and of a driver size.
+pub const WIDEST: u64 = 100;
+pub const LARGEST: u64 = 100_000;
 
 /// The room between a job's bounds.
 pub fn room(job: &[u8]) -> u64 {
@@ -28,7 +32,7 @@ fn rising(random: &mut Random, n: usize, most: u64) -> Vec<u32> {
     }
 }
 
-/// Which places are free.
+/// Which places are free. Repeaters are, wherever there are some.
 #[derive(Clone, Copy)]
 pub enum Free {
     First { stages: bool, segments: usize },
@@ -39,27 +43,38 @@ struct Wanted {
     name: &'static str,
     stages: usize,
     segments: usize,
+    repeaters: usize,
     free: Free,
     most: u64,
     steps: usize,
 }
 
-/// A table of n widths.
-pub fn widths(random: &mut Random, n: usize) -> Vec<(u32, u32)> {
-    let resistances = rising(random, n, 100);
-    let capacitances = rising(random, n, 100);
+/// A table of n widths, with figures up to `most`.
+pub fn widths(random: &mut Random, n: usize, most: u64) -> Vec<(u32, u32)> {
+    let resistances = rising(random, n, most);
+    let capacitances = rising(random, n, most);
     resistances.into_iter().rev().zip(capacitances).collect()
 }
 
-fn sizes(random: &mut Random, n: usize) -> Vec<(u32, u32, u32)> {
-    let resistances = rising(random, n, 100_000);
-    let gates = rising(random, n, 100_000);
+/// A table of n driver sizes, with figures up to `most`.
+pub fn sizes(random: &mut Random, n: usize, most: u64) -> Vec<(u32, u32, u32)> {
+    let resistances = rising(random, n, most);
+    let gates = rising(random, n, most);
     resistances
         .into_iter()
         .rev()
         .zip(gates)
         .map(|(r, g)| (r, g, random.below(1 + u64::from(g)) as u32))
         .collect()
+}
+
+/// Repeaters at so many of the segments that have branches, each with the same range.
+pub fn repeaters(random: &mut Random, job: &Job, n: usize, range: (u8, u8)) -> Vec<Repeater> {
+    let mut sites = job.sites();
+    while sites.len() > n {
+        sites.remove(random.below(sites.len() as u64) as usize);
+    }
+    sites.into_iter().map(|segment| Repeater { segment, range }).collect()
 }
 
 fn fresh(random: &mut Random, wanted: &Wanted) -> Job {
@@ -94,9 +109,9 @@ fn fresh(random: &mut Random, wanted: &Wanted) -> Job {
             segments[i].sink = Some((random.below(2_000) as u32, 1 + random.below(8) as u8));
         }
     }
-    Job {
-        widths: widths(random, kinds),
-        sizes: sizes(random, drivers),
+    let mut job = Job {
+        widths: widths(random, kinds, WIDEST),
+        sizes: sizes(random, drivers, LARGEST),
         stages: (0..wanted.stages)
             .map(|s| {
                 let fixed = random.below(drivers as u64) as u8;
@@ -108,7 +123,12 @@ fn fresh(random: &mut Random, wanted: &Wanted) -> Job {
             })
             .collect(),
         segments,
+        repeaters: Vec::new(),
+    };
+    if wanted.repeaters > 0 {
+        job.repeaters = repeaters(random, &job, wanted.repeaters, (0, drivers as u8 - 1));
     }
+    job
 }
 
 /// A job with one thing changed.
@@ -123,9 +143,9 @@ fn changed(random: &mut Random, job: &Job) -> Job {
     } else {
         any
     };
-    match random.below(8) {
-        0 => job.widths = widths(random, job.widths.len()),
-        1 => job.sizes = sizes(random, job.sizes.len()),
+    match random.below(if job.repeaters.is_empty() { 8 } else { 9 }) {
+        0 => job.widths = widths(random, job.widths.len(), WIDEST),
+        1 => job.sizes = sizes(random, job.sizes.len(), LARGEST),
         2 | 3 => job.segments[i].length = 1 + random.up_to(9) as u32,
         4 => {
             let k = random.below(job.sizes.len() as u64) as u8;
@@ -149,11 +169,12 @@ fn changed(random: &mut Random, job: &Job) -> Job {
                 *range = (k, range.1);
             }
         }
-        _ => {
+        7 => {
             if let Some(sink) = &mut job.segments[i].sink {
                 *sink = (random.up_to(16) as u32, 1 + random.below(8) as u8);
             }
         }
+        _ => job.repeaters = repeaters(random, &job, job.repeaters.len(), job.repeaters[0].range),
     }
     job
 }
@@ -190,6 +211,7 @@ pub fn find() {
             name: "first",
             stages: 4,
             segments: 64,
+            repeaters: 0,
             free: Free::First {
                 stages: true,
                 segments: 4,
@@ -201,6 +223,7 @@ pub fn find() {
             name: "last",
             stages: 4,
             segments: 64,
+            repeaters: 0,
             free: Free::Last(16),
             most: 65_536,
             steps: 20_000,
@@ -209,12 +232,25 @@ pub fn find() {
             name: "median",
             stages: 2,
             segments: 16,
+            repeaters: 0,
             free: Free::First {
                 stages: true,
                 segments: 16,
             },
             most: 600,
             steps: 4_000,
+        },
+        Wanted {
+            name: "repeaters",
+            stages: 4,
+            segments: 64,
+            repeaters: 8,
+            free: Free::First {
+                stages: false,
+                segments: 0,
+            },
+            most: 65_536,
+            steps: 20_000,
         },
     ];
     let folder = concat!(env!("CARGO_MANIFEST_DIR"), "/jobs");

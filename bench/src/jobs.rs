@@ -9,6 +9,13 @@ pub struct Segment {
     pub range: (u8, u8),
 }
 
+/// A repeater: the segment at whose far end it sits, lowest and highest size.
+#[derive(Clone)]
+pub struct Repeater {
+    pub segment: u8,
+    pub range: (u8, u8),
+}
+
 /// A job before it is written as records.
 #[derive(Clone)]
 pub struct Job {
@@ -16,6 +23,7 @@ pub struct Job {
     pub sizes: Vec<(u32, u32, u32)>,
     pub stages: Vec<(u8, u8)>,
     pub segments: Vec<Segment>,
+    pub repeaters: Vec<Repeater>,
 }
 
 impl Job {
@@ -40,7 +48,26 @@ impl Job {
                 [s.length, capacitance, last],
             );
         }
+        for (i, r) in self.repeaters.iter().enumerate() {
+            let (lowest, highest) = r.range;
+            push(&mut bytes, [5, i as u8, r.segment, lowest], [highest.into(), 0, 0]);
+        }
         bytes
+    }
+
+    /// The segments that have branches, in rising order: a repeater can sit at their far ends.
+    pub fn sites(&self) -> Vec<u8> {
+        (0..self.segments.len() as u8)
+            .filter(|&i| self.segments.iter().any(|s| s.parent == i + 1))
+            .collect()
+    }
+
+    /// Puts eight repeaters of all sizes at the segments 7 to 14. Of a net with two segments at each far end these are a level:
+    /// each sink behind them is behind one of them.
+    pub fn with_repeaters(mut self) -> Self {
+        let range = (0, self.sizes.len() as u8 - 1);
+        self.repeaters = (7..15).map(|segment| Repeater { segment, range }).collect();
+        self
     }
 
     /// Fixes every segment at a width and every stage at a size.
@@ -148,16 +175,18 @@ pub fn net(stages: usize, segments: usize, shape: Shape) -> Job {
                 range: (0, 7),
             })
             .collect(),
+        repeaters: Vec::new(),
     }
 }
 
-/// An allowed sizing of `net`, the same in each run.
-pub fn sizing(stages: usize, segments: usize) -> Vec<u8> {
+/// An allowed sizing of a `net`, with or without repeaters, the same in each run.
+pub fn sizing(net: &Job) -> Vec<u8> {
     let mut random = Random(0xD1B5_4A32_D192_ED03);
-    let sizes = (0..stages).map(|s| if s == 0 { 2 } else { 15 });
+    let sizes = (0..net.stages.len()).map(|s| if s == 0 { 2 } else { 15 });
     let mut sizing: Vec<u8> = sizes.collect();
     sizing.iter_mut().skip(1).for_each(|k| *k = random.below(16) as u8);
-    sizing.extend((0..segments).map(|_| random.below(8) as u8));
+    sizing.extend(net.segments.iter().map(|_| random.below(8) as u8));
+    sizing.extend(net.repeaters.iter().map(|_| random.below(16) as u8));
     sizing
 }
 

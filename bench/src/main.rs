@@ -13,7 +13,7 @@ use std::hint::black_box;
 use timing::{Times, interleaved};
 
 /// A reply buffer that holds every reply. It is not cleared between calls.
-const REPLY: usize = 552;
+const REPLY: usize = 616;
 
 /// Calls of size with a reply buffer of some length.
 fn size_timed(job: &[u8], length: usize, size: impl Fn(&[u8], &mut [u8]) -> usize) -> impl FnMut() {

@@ -1,31 +1,33 @@
-//! The same work in plain Rust: questions 1 to 11 and 24, delay, refining, bounds, search, reply.
+//! The same work in plain Rust: questions 1 to 11 and 22 to 24, delay, refining, bounds, search, reply.
 //! Nothing is shared with the library. A job that passes the questions is read in place, through slices of its records.
 //!
 //! Three ways to go:
 //! (a) as the library goes: the delay by a walk over the branches; both ends of the tie at a place, in one pass, by what
 //!     it drives and the resistance upstream of it; the search through the free places, with what the held ones give
-//!     summed once;
+//!     summed once; for both the places stand in driving order: stages, then each segment with its repeater behind it;
 //! (b) the delay as in (a), and a whole delay for each index that is refined and for each sizing that is searched;
-//! (c) the delay by one pass without recursion, and so at each index that is refined; the search through all places,
-//!     with the loads and the delay so far carried along.
+//! (c) the delay by one pass without recursion, and so at each index that is refined; the search through all places, in
+//!     the order of (a), with the loads and the delay so far carried along.
 
 /// A record of a job.
 pub type Record = [u8; 16];
 
-/// The most places, nodes and segments of a job.
-const PLACES: usize = 68;
+/// The most places, segments and repeaters of a job.
+const PLACES: usize = 76;
 const SEGMENTS: usize = 64;
+const REPEATERS: usize = 8;
 
 /// The most sizings that a search covers.
 const ROOM: u64 = 65_536;
 
-/// A job's records by kind, its widths by layer.
+/// A job's records by kind, its widths by layer. Its places are the stages, the segments and the repeaters.
 #[derive(Clone, Copy)]
 pub struct Net<'a> {
     pub layers: [&'a [Record]; 2],
     pub sizes: &'a [Record],
     pub stages: &'a [Record],
     pub segments: &'a [Record],
+    pub repeaters: &'a [Record],
 }
 
 /// The first segment at each node and the next sibling of each segment; `segments.len()` where there is none.
@@ -142,24 +144,25 @@ fn fits(segment: &Record, layers: &[&[Record]; 2]) -> bool {
         && usize::from(segment[14]) < layers[usize::from(segment[15])].len()
 }
 
-/// Asks questions 1, 2, 24 and 3 to 11, in this order, and links the segments; the number of the first question that the job
-/// fails is the error.
+/// Asks questions 1, 2, 24, 3 to 11, 22 and 23, in this order, and links the segments; the number of the first question that
+/// the job fails is the error.
 fn check<'a>(job: &'a [u8], links: &mut Links) -> Result<Net<'a>, usize> {
     let (records, rest) = job.as_chunks::<16>();
     if job.is_empty() || !rest.is_empty() {
         return Err(1);
     }
-    if !climbs(records, 0, 1, 4) {
+    if !climbs(records, 0, 1, 5) {
         return Err(2);
     }
-    let mut counts = [0usize; 5];
+    let mut counts = [0usize; 6];
     for record in records {
         counts[usize::from(record[0])] += 1;
     }
-    let [_, widths, sizes, stages, _] = counts;
+    let [_, widths, sizes, stages, segments, _] = counts;
     let (widths, records) = records.split_at(widths);
     let (sizes, records) = records.split_at(sizes);
-    let (stages, segments) = records.split_at(stages);
+    let (stages, records) = records.split_at(stages);
+    let (segments, repeaters) = records.split_at(segments);
     let (first, second) = widths.split_at(widths.iter().filter(|r| r[2] == 0).count());
     let top = u8::from(!second.is_empty());
     if !(climbs(widths, 2, 0, 1) && segments.iter().all(|r| r[15] <= top)) {
@@ -170,15 +173,18 @@ fn check<'a>(job: &'a [u8], links: &mut Links) -> Result<Net<'a>, usize> {
         || !(1..=16).contains(&sizes.len())
         || !(1..=4).contains(&stages.len())
         || !(1..=SEGMENTS).contains(&segments.len())
+        || repeaters.len() > REPEATERS
     {
         return Err(3);
     }
-    if !(in_order(first) && in_order(second) && in_order(sizes) && in_order(stages) && in_order(segments)) {
+    if !(in_order(first) && in_order(second) && in_order(sizes) && in_order(stages) && in_order(segments) && in_order(repeaters))
+    {
         return Err(4);
     }
     if !(widths.iter().all(|r| r[3] == 0 && r[12..] == [0; 4])
         && sizes.iter().all(|r| r[2..4] == [0; 2])
-        && stages.iter().all(|r| r[4..] == [0; 12]))
+        && stages.iter().all(|r| r[4..] == [0; 12])
+        && repeaters.iter().all(|r| r[5..] == [0; 11]))
     {
         return Err(5);
     }
@@ -212,11 +218,18 @@ fn check<'a>(job: &'a [u8], links: &mut Links) -> Result<Net<'a>, usize> {
     {
         return Err(11);
     }
+    if !links.sited(repeaters, without) {
+        return Err(22);
+    }
+    if !ranges_within(repeaters, 3, sizes.len()) {
+        return Err(23);
+    }
     Ok(Net {
         layers,
         sizes,
         stages,
         segments,
+        repeaters,
     })
 }
 
@@ -237,6 +250,21 @@ impl Links {
             self.first[node] = j;
         }
     }
+
+    /// Is the segment of each repeater one of the n, has it branches, and do the segment numbers strictly rise? `before` is the
+    /// node at the far end of the segment before, and 0 before the first.
+    fn sited(&self, repeaters: &[Record], n: usize) -> bool {
+        let mut before = 0;
+        for repeater in repeaters {
+            let site = usize::from(repeater[2]);
+            let node = site + 1;
+            if site >= n || self.first[node] >= n || node <= before {
+                return false;
+            }
+            before = node;
+        }
+        true
+    }
 }
 
 /// The wire of a segment, whatever its width: the rows of its layer, and its length.
@@ -246,17 +274,31 @@ struct Wire<'a> {
     length: u64,
 }
 
-/// A part of the tree: the weight of its sinks, its load, and the scaled delay that arises inside it.
-#[derive(Clone, Copy)]
+/// A part of the tree: the weight of its sinks, its load as seen from above, what its repeaters charge, and the scaled delay
+/// that arises inside it.
+#[derive(Clone, Copy, Default)]
 struct Part {
     weight: u64,
     load: u64,
+    charged: u64,
     delay: u64,
+}
+
+/// The indices of a sizing, by kind of place.
+struct Indices<'x> {
+    stages: &'x [u8],
+    segments: &'x [u8],
+    repeaters: &'x [u8],
 }
 
 impl<'a> Net<'a> {
     fn places(&self) -> usize {
-        self.stages.len() + self.segments.len()
+        self.stages.len() + self.segments.len() + self.repeaters.len()
+    }
+
+    /// The segment that a place is; none where it is a driver.
+    fn segment_at(&self, p: usize) -> Option<&'a Record> {
+        self.segments.get(p.checked_sub(self.stages.len())?)
     }
 
     /// The wire of a segment.
@@ -269,65 +311,50 @@ impl<'a> Net<'a> {
 
     /// The wire of a place that is a segment.
     fn wire_at(&self, p: usize) -> Option<Wire<'a>> {
-        Some(self.wire(&self.segments[p.checked_sub(self.stages.len())?]))
+        self.segment_at(p).map(|segment| self.wire(segment))
     }
 
-    fn lowest(&self, p: usize) -> u8 {
-        match self.stages.get(p) {
-            Some(stage) => stage[2],
-            None => self.segments[p - self.stages.len()][13],
+    /// The lowest and the highest index of a place.
+    fn range(&self, p: usize) -> (u8, u8) {
+        if let Some(stage) = self.stages.get(p) {
+            return (stage[2], stage[3]);
+        }
+        let i = p - self.stages.len();
+        match self.segments.get(i) {
+            Some(segment) => (segment[13], segment[14]),
+            None => {
+                let repeater = &self.repeaters[i - self.segments.len()];
+                (repeater[3], repeater[4])
+            }
         }
     }
 
-    fn highest(&self, p: usize) -> u8 {
-        match self.stages.get(p) {
-            Some(stage) => stage[3],
-            None => self.segments[p - self.stages.len()][14],
+    /// The index of a place at which refining from a side starts.
+    fn first_index(&self, p: usize, side: Side) -> u8 {
+        let (lowest, highest) = self.range(p);
+        if side == Side::Below { lowest } else { highest }
+    }
+
+    /// The indices of a sizing that has one for each place, and may have more.
+    fn by_kind<'x>(&self, sizing: &'x [u8]) -> Indices<'x> {
+        let (stages, sizing) = sizing.split_at(self.stages.len());
+        let (segments, sizing) = sizing.split_at(self.segments.len());
+        Indices {
+            stages,
+            segments,
+            repeaters: &sizing[..self.repeaters.len()],
         }
     }
 
-    /// Segment j and its siblings after it, each with all below it; `widths` are the indices of the segments.
-    fn branches(&self, links: &Links, widths: &[u8], j: usize) -> Part {
-        let mut part = Part {
-            weight: 0,
-            load: 0,
-            delay: 0,
-        };
-        let mut i = j;
-        while let Some(segment) = self.segments.get(i) {
-            let Wire { rows, length } = self.wire(segment);
-            let row = &rows[usize::from(widths[i])];
-            let (resistance, own) = (word(row, 4) * length, word(row, 8) * length);
-            let below = self.branches(links, widths, links.first[i + 1]);
-            let weight = u64::from(segment[12]) + below.weight;
-            let under = word(segment, 8) + below.load;
-            part.weight += weight;
-            part.load += own + under;
-            part.delay += weight * (resistance * (own + 2 * under)) + below.delay;
-            i = links.next[i];
-        }
-        part
-    }
-
-    /// The whole tree by one pass, from the last segment to the first: each adds its weight and load to its parent's.
-    fn tree_by_pass(&self, widths: &[u8]) -> Part {
-        let mut below = [(0, 0); SEGMENTS + 1];
-        let mut delay = 0;
-        for (i, (segment, &k)) in self.segments.iter().zip(widths).enumerate().rev() {
-            let Wire { rows, length } = self.wire(segment);
-            let row = &rows[usize::from(k)];
-            let own = word(row, 8) * length;
-            let weight = u64::from(segment[12]) + below[i + 1].0;
-            let under = word(segment, 8) + below[i + 1].1;
-            delay += weight * (word(row, 4) * length * (own + 2 * under));
-            let parent = &mut below[usize::from(segment[2])];
-            parent.0 += weight;
-            parent.1 += own + under;
-        }
+    /// Branches seen from before their repeater, which has the size k: the load is its gate.
+    fn through_repeater(&self, k: u8, branches: Part) -> Part {
+        let size = &self.sizes[usize::from(k)];
+        let charged = word(size, 12) + branches.load;
         Part {
-            weight: below[0].0,
-            load: below[0].1,
-            delay,
+            weight: branches.weight,
+            load: word(size, 8),
+            charged: branches.charged + charged,
+            delay: branches.delay + 2 * branches.weight * (word(size, 4) * charged),
         }
     }
 
@@ -344,41 +371,139 @@ impl<'a> Net<'a> {
         }
         (delay, load)
     }
+}
 
-    /// The scaled delay and the load figure of a sizing: what its stages charge.
-    fn figures<const PASS: bool>(&self, links: &Links, sizing: &[u8]) -> (u64, u64) {
-        let (sizes, widths) = sizing.split_at(self.stages.len());
+/// A net with what whole delays need: its links, and of each segment the repeater at its far end, or the number past the last
+/// that there can be.
+struct Tree<'a> {
+    net: &'a Net<'a>,
+    links: &'a Links,
+    seats: [u8; SEGMENTS],
+}
+
+impl<'a> Tree<'a> {
+    fn new(net: &'a Net<'a>, links: &'a Links) -> Self {
+        let mut seats = [REPEATERS as u8; SEGMENTS];
+        for repeater in net.repeaters {
+            seats[usize::from(repeater[2])] = repeater[1];
+        }
+        Tree { net, links, seats }
+    }
+
+    /// What hangs at the far end of a segment: its branches, seen through the repeater where one sits there. Where it has no
+    /// branches no call is made, because half of a tree's segments are such.
+    #[inline(always)]
+    fn hanging(&self, x: &Indices, i: usize) -> Part {
+        let child = self.links.first[i + 1];
+        if child == self.net.segments.len() {
+            return Part::default();
+        }
+        let branches = self.branches(x, child);
+        match x.repeaters.get(usize::from(self.seats[i])) {
+            Some(&k) => self.net.through_repeater(k, branches),
+            None => branches,
+        }
+    }
+
+    /// Segment j and its siblings after it, each with all below it.
+    fn branches(&self, x: &Indices, j: usize) -> Part {
+        let mut part = Part::default();
+        let mut i = j;
+        while let Some(segment) = self.net.segments.get(i) {
+            let below = self.hanging(x, i);
+            let Wire { rows, length } = self.net.wire(segment);
+            let row = &rows[usize::from(x.segments[i])];
+            let (resistance, own) = (word(row, 4) * length, word(row, 8) * length);
+            let weight = u64::from(segment[12]) + below.weight;
+            let under = word(segment, 8) + below.load;
+            part.weight += weight;
+            part.load += own + under;
+            part.charged += below.charged;
+            part.delay += weight * (resistance * (own + 2 * under)) + below.delay;
+            i = self.links.next[i];
+        }
+        part
+    }
+
+    /// The whole tree by one pass, from the last segment to the first, in runs that end before a repeater: the segment at whose
+    /// far end it sits comes next, and its branches are seen through it.
+    fn by_pass(&self, x: &Indices) -> Part {
+        let mut below = [(0, 0); SEGMENTS + 1];
+        let mut part = Part::default();
+        let mut end = self.net.segments.len();
+        for (repeater, &k) in self.net.repeaters.iter().zip(x.repeaters).rev() {
+            let node = 1 + usize::from(repeater[2]);
+            part.delay += self.pass(x, &mut below, node, end);
+            (part.weight, part.load) = below[node];
+            part = self.net.through_repeater(k, part);
+            below[node].1 = part.load;
+            end = node;
+        }
+        part.delay += self.pass(x, &mut below, 0, end);
+        (part.weight, part.load) = below[0];
+        part
+    }
+
+    /// The segments from `start` to `end`, the end left out, from the last to the first: each adds its weight and load to its
+    /// parent's. The answer is what they add to the delay.
+    #[inline(always)]
+    fn pass(&self, x: &Indices, below: &mut [(u64, u64); SEGMENTS + 1], start: usize, end: usize) -> u64 {
+        let mut delay = 0;
+        let run = self.net.segments[start..end].iter().zip(&x.segments[start..end]);
+        for (i, (segment, &k)) in run.enumerate().rev() {
+            let Wire { rows, length } = self.net.wire(segment);
+            let row = &rows[usize::from(k)];
+            let own = word(row, 8) * length;
+            let (weight, load) = below[start + i + 1];
+            let weight = u64::from(segment[12]) + weight;
+            let under = word(segment, 8) + load;
+            delay += weight * (word(row, 4) * length * (own + 2 * under));
+            let parent = &mut below[usize::from(segment[2])];
+            parent.0 += weight;
+            parent.1 += own + under;
+        }
+        delay
+    }
+
+    /// The scaled delay and the load figure of a sizing: what its stages and its repeaters charge.
+    fn figures<const PASS: bool>(&self, sizing: &[u8]) -> (u64, u64) {
+        let x = self.net.by_kind(sizing);
         let tree = if PASS {
-            self.tree_by_pass(widths)
+            self.by_pass(&x)
         } else {
-            self.branches(links, widths, links.first[0])
+            self.branches(&x, self.links.first[0])
         };
-        let (stages, load) = self.stages_figures(sizes, tree.load);
-        (tree.weight * (2 * stages) + tree.delay, load)
+        let (stages, load) = self.net.stages_figures(x.stages, tree.load);
+        (tree.weight * (2 * stages) + tree.delay, load + tree.charged)
     }
 
     /// The tie at a place, the rest held, by the whole delay at each index; its cost is the delay. x is left at some index.
-    fn settle<const PASS: bool>(&self, links: &Links, x: &mut [u8], p: usize) -> Tie {
-        Tie::among(self.lowest(p), self.highest(p), |k| {
+    fn settle<const PASS: bool>(&self, x: &mut [u8], p: usize) -> Tie {
+        let (lowest, highest) = self.net.range(p);
+        Tie::among(lowest, highest, |k| {
             x[p] = k;
-            self.figures::<PASS>(links, x).0
+            self.figures::<PASS>(x).0
         })
     }
 
+    /// The tie at a place of a sizing; its cost is the delay.
+    fn refined<const PASS: bool>(&self, sizing: &[u8], p: usize) -> Tie {
+        let mut held = [0; PLACES];
+        let x = &mut held[..sizing.len()];
+        x.copy_from_slice(sizing);
+        self.settle::<PASS>(x, p)
+    }
+
     /// The bound from a side, by sweeps until nothing changes.
-    fn bound<const PASS: bool>(&self, links: &Links, x: &mut [u8], side: Side) {
+    fn bound<const PASS: bool>(&self, x: &mut [u8], side: Side) {
         for (p, index) in x.iter_mut().enumerate() {
-            *index = if side == Side::Below {
-                self.lowest(p)
-            } else {
-                self.highest(p)
-            };
+            *index = self.net.first_index(p, side);
         }
         loop {
             let mut changed = false;
             for p in 0..x.len() {
                 let before = x[p];
-                x[p] = self.settle::<PASS>(links, x, p).end(side);
+                x[p] = self.settle::<PASS>(x, p).end(side);
                 changed |= x[p] != before;
             }
             if !changed {
@@ -387,26 +512,17 @@ impl<'a> Net<'a> {
         }
     }
 
-    /// The weight that a place's delay has: that of the sinks behind a segment, twice that of all sinks for a stage.
-    fn weigh(&self, links: &Links, weights: &mut [u64]) {
-        let (of_stages, of_segments) = weights.split_at_mut(self.stages.len());
-        for (i, segment) in self.segments.iter().enumerate().rev() {
-            of_segments[i] = u64::from(segment[12]) + links.sum(of_segments, links.first[i + 1]);
+    /// The search that evaluates the whole delay at each sizing between the bounds.
+    fn search(&self, lower: &[u8], upper: &[u8], x: &mut [u8], found: &mut Found) {
+        x.copy_from_slice(lower);
+        loop {
+            found.keep(x, self.figures::<false>(x).0);
+            let Some(p) = (0..x.len()).find(|&p| x[p] < upper[p]) else {
+                return;
+            };
+            x[p] += 1;
+            x[..p].copy_from_slice(&lower[..p]);
         }
-        of_stages.fill(2 * links.sum(of_segments, links.first[0]));
-    }
-}
-
-impl Links {
-    /// The sum of what `values` has for segment j and its siblings after it.
-    fn sum(&self, values: &[u64], j: usize) -> u64 {
-        let mut sum = 0;
-        let mut i = j;
-        while let Some(value) = values.get(i) {
-            sum += value;
-            i = self.next[i];
-        }
-        sum
     }
 }
 
@@ -434,6 +550,87 @@ impl Found<'_> {
     }
 }
 
+/// The places in driving order: the stages, then each segment and directly behind it its repeater. A place's number there is
+/// its position.
+struct Positions {
+    /// The place at each position, and the position of each place.
+    order: [usize; PLACES],
+    position: [usize; PLACES],
+    /// The node that each position hangs at: node 0 is before all, node t + 1 behind position t.
+    hangs: [usize; PLACES],
+}
+
+impl Positions {
+    fn new(net: &Net) -> Self {
+        let mut at = Positions {
+            order: [0; PLACES],
+            position: [0; PLACES],
+            hangs: [0; PLACES],
+        };
+        at.put_in_order(net);
+        at.hang(net);
+        at
+    }
+
+    /// Puts the places from `start` to `end`, the end left out, before which `passed` repeaters have been put.
+    fn put_run(&mut self, start: usize, end: usize, passed: usize) {
+        for (place, p) in self.order[start + passed..end + passed].iter_mut().zip(start..) {
+            *place = p;
+        }
+        for (position, t) in self.position[start..end].iter_mut().zip(start + passed..) {
+            *position = t;
+        }
+    }
+
+    /// Puts all places in order: run after run of those between two repeaters.
+    fn put_in_order(&mut self, net: &Net) {
+        let places = net.stages.len() + net.segments.len();
+        let mut start = 0;
+        for (r, repeater) in net.repeaters.iter().enumerate() {
+            let end = net.stages.len() + usize::from(repeater[2]) + 1;
+            self.put_run(start, end, r);
+            self.order[end + r] = places + r;
+            self.position[places + r] = end + r;
+            start = end;
+        }
+        self.put_run(start, places, net.repeaters.len());
+    }
+
+    /// Hangs each place: a segment where the one stands whose number is its parent byte, because the branches at a node hang
+    /// behind all that stands before that one; a driver directly behind the place before it.
+    fn hang(&mut self, net: &Net) {
+        for t in 0..net.places() {
+            self.hangs[t] = match net.segment_at(self.order[t]) {
+                Some(segment) => self.position[net.stages.len() + usize::from(segment[2])],
+                None => t,
+            };
+        }
+    }
+
+    /// The indices of a sizing that goes by place, by position.
+    fn arranged(&self, sizing: &[u8]) -> [u8; PLACES] {
+        let mut arranged = [0; PLACES];
+        for (index, &p) in arranged.iter_mut().zip(&self.order).take(sizing.len()) {
+            *index = sizing[p];
+        }
+        arranged
+    }
+
+    /// The weight of each position, in one pass from the last to the first: of a wire that of the sinks behind it, of a driver
+    /// twice that.
+    fn weigh(&self, net: &Net, weights: &mut [u64; PLACES]) {
+        let mut gathered = [0; PLACES + 1];
+        for t in (0..net.places()).rev() {
+            let (weight, behind) = match net.segment_at(self.order[t]) {
+                Some(segment) => (1, u64::from(segment[12]) + gathered[t + 1]),
+                None => (2, gathered[t + 1]),
+            };
+            weights[t] = weight * behind;
+            gathered[self.hangs[t]] += behind;
+        }
+    }
+}
+
 /// What a place adds at one of its indices: its part of the delay, and the load that it shows.
 struct Step {
     delay: u64,
@@ -441,17 +638,7 @@ struct Step {
 }
 
 impl Net<'_> {
-    /// The node that a place hangs at; node n above 0 is behind place n - 1.
-    fn hangs(&self, p: usize) -> usize {
-        let stages = self.stages.len();
-        if p < stages {
-            p
-        } else {
-            stages + usize::from(self.segments[p - stages][2])
-        }
-    }
-
-    /// The step of a place to an index, over the load that it drives.
+    /// The step of a place to an index, over the load that it drives; `wire` is its wire, where it is a segment.
     #[inline(always)]
     fn step(&self, weight: u64, wire: Option<Wire>, k: u8, driven: u64) -> Step {
         match wire {
@@ -472,107 +659,146 @@ impl Net<'_> {
             }
         }
     }
-
-    /// How the weighted delay of a place grows with each unit of the load that it drives.
-    fn slope(&self, weight: u64, p: usize, k: u8) -> u64 {
-        match self.wire_at(p) {
-            None => weight * word(&self.sizes[usize::from(k)], 4),
-            Some(Wire { rows, length }) => 2 * weight * (word(&rows[usize::from(k)], 4) * length),
-        }
-    }
 }
 
-/// The sums of a net whose places are held at one index each, or free: the loads that the places drive, and what the
-/// delay grows by with each unit of the load that a place shows. A free place shows no load.
-struct Sums {
+/// The sums of a net whose places are held at one index each, or free, by position, as sizings are here: the loads that the
+/// places drive, and what the delay grows by with each unit of the load that a place shows. A free place shows no load.
+struct Sums<'a> {
+    at: &'a Positions,
     weights: [u64; PLACES],
     driven: [u64; PLACES],
     upstream: [u64; PLACES],
 }
 
-impl Sums {
-    fn new(net: &Net, links: &Links) -> Self {
-        let mut sums = Sums {
+impl<'a> Sums<'a> {
+    fn new(at: &'a Positions) -> Self {
+        Sums {
+            at,
             weights: [0; PLACES],
             driven: [0; PLACES],
             upstream: [0; PLACES],
-        };
-        net.weigh(links, &mut sums.weights[..net.places()]);
-        sums
+        }
     }
 
-    /// One pass from the last place to the first: each held place adds the load that it shows where it hangs.
+    /// One pass from the last position to the first: each held place adds the load that it shows where it hangs.
     fn hold(&mut self, net: &Net, lower: &[u8], upper: &[u8]) {
         let mut gathered = [0; PLACES + 1];
-        for p in (0..net.places()).rev() {
-            let sink = match p.checked_sub(net.stages.len()) {
-                Some(i) => word(&net.segments[i], 8),
-                None => 0,
-            };
-            self.driven[p] = sink + gathered[p + 1];
-            if lower[p] >= upper[p] {
-                gathered[net.hangs(p)] += net.step(0, net.wire_at(p), lower[p], self.driven[p]).load;
+        for t in (0..net.places()).rev() {
+            let segment = net.segment_at(self.at.order[t]);
+            let sink = segment.map_or(0, |segment| word(segment, 8));
+            self.driven[t] = sink + gathered[t + 1];
+            if lower[t] >= upper[t] {
+                let wire = segment.map(|segment| net.wire(segment));
+                gathered[self.at.hangs[t]] += net.step(0, wire, lower[t], self.driven[t]).load;
             }
         }
     }
 
-    /// The upstream of a place's load, from those of the places before it.
+    /// What the delay grows by with each unit of load behind position a, which is held at the index k. Nothing passes beyond a
+    /// driver.
     #[inline(always)]
-    fn go_upstream(&mut self, net: &Net, lower: &[u8], upper: &[u8], p: usize) {
-        self.upstream[p] = match net.hangs(p).checked_sub(1) {
-            Some(a) if lower[a] == upper[a] => {
-                let own = net.slope(self.weights[a], a, lower[a]);
-                if a < net.stages.len() { own } else { own + self.upstream[a] }
-            }
+    fn onward(&self, net: &Net, a: usize, k: u8) -> u64 {
+        match net.wire_at(self.at.order[a]) {
+            None => self.weights[a] * word(&net.sizes[usize::from(k)], 4),
+            Some(Wire { rows, length }) => 2 * self.weights[a] * (word(&rows[usize::from(k)], 4) * length) + self.upstream[a],
+        }
+    }
+
+    /// The upstream of a position's load, from those of the positions before it.
+    #[inline(always)]
+    fn go_upstream(&mut self, net: &Net, lower: &[u8], upper: &[u8], t: usize) {
+        self.upstream[t] = match self.at.hangs[t].checked_sub(1) {
+            Some(a) if lower[a] == upper[a] => self.onward(net, a, lower[a]),
             _ => 0,
         };
     }
 
-    /// What a place adds at an index, with what its load costs upstream; `wire` is its wire, where it is a segment.
+    /// What the place at a position adds at an index, with what its load costs upstream; `wire` is its wire, where it is a
+    /// segment.
     #[inline(always)]
-    fn cost(&self, net: &Net, p: usize, wire: Option<Wire>, k: u8) -> u64 {
-        let step = net.step(self.weights[p], wire, k, self.driven[p]);
-        step.delay + self.upstream[p] * step.load
+    fn cost(&self, net: &Net, t: usize, wire: Option<Wire>, k: u8) -> u64 {
+        let step = net.step(self.weights[t], wire, k, self.driven[t]);
+        step.delay + self.upstream[t] * step.load
     }
 
-    /// The tie at a place, the rest held.
+    /// The tie at a position, the rest held.
     #[inline(always)]
-    fn settled(&self, net: &Net, p: usize) -> Tie {
+    fn settled(&self, net: &Net, t: usize) -> Tie {
+        let p = self.at.order[t];
         let wire = net.wire_at(p);
-        Tie::among(net.lowest(p), net.highest(p), |k| self.cost(net, p, wire, k))
+        let (lowest, highest) = net.range(p);
+        Tie::among(lowest, highest, |k| self.cost(net, t, wire, k))
     }
 
-    /// The scaled delay of a sizing whose places are all held.
-    fn delay(&self, net: &Net, x: &[u8]) -> u64 {
-        let own = |p: usize| net.step(self.weights[p], net.wire_at(p), x[p], self.driven[p]).delay;
-        (0..x.len()).map(own).sum()
+    /// What the place at a position adds to the delay where it is held at the index k.
+    fn own_delay(&self, net: &Net, t: usize, k: u8) -> u64 {
+        net.step(self.weights[t], net.wire_at(self.at.order[t]), k, self.driven[t])
+            .delay
+    }
+
+    /// The tie at a place of a sizing, which goes by place; its cost is the delay that either end reaches.
+    fn refined(&mut self, net: &Net, sizing: &[u8], place: usize) -> Tie {
+        let x = &self.at.arranged(sizing)[..sizing.len()];
+        let t = self.at.position[place];
+        self.hold(net, x, x);
+        for before in 0..=t {
+            self.go_upstream(net, x, x, before);
+        }
+        let delay: u64 = (0..x.len()).map(|t| self.own_delay(net, t, x[t])).sum();
+        let tie = self.settled(net, t);
+        Tie {
+            cost: delay + tie.cost - self.cost(net, t, net.wire_at(place), x[t]),
+            ..tie
+        }
     }
 
     /// The bound from a side, by sweeps until nothing changes.
     fn bound(&mut self, net: &Net, x: &mut [u8], side: Side) {
-        for (p, index) in x.iter_mut().enumerate() {
-            *index = if side == Side::Below { net.lowest(p) } else { net.highest(p) };
+        for (index, &p) in x.iter_mut().zip(&self.at.order) {
+            *index = net.first_index(p, side);
         }
         loop {
             self.hold(net, x, x);
             let mut changed = false;
-            for p in 0..x.len() {
-                self.go_upstream(net, x, x, p);
-                let best = self.settled(net, p).end(side);
-                changed |= x[p] != best;
-                x[p] = best;
+            for t in 0..x.len() {
+                self.go_upstream(net, x, x, t);
+                let best = self.settled(net, t).end(side);
+                changed |= x[t] != best;
+                x[t] = best;
             }
             if !changed {
                 return;
             }
         }
     }
+
+    /// The search between the bounds.
+    fn search(&mut self, net: &Net, lower: &[u8], upper: &[u8], x: &mut [u8], found: &mut Found) {
+        self.hold(net, lower, upper);
+        for t in 0..lower.len() {
+            self.go_upstream(net, lower, upper, t);
+        }
+        Search {
+            net: *net,
+            at: self.at,
+            sums: self,
+            lower,
+            upper,
+            x,
+            ups: [0; PLACES],
+            skips: [0; PLACES + 1],
+            gathered: [0; PLACES + 1],
+            found,
+        }
+        .all();
+    }
 }
 
-/// The search over the free places, from the last to the first. Loads go past held segments at once.
+/// The search over the free places, from the last position to the first. Loads go past held segments at once.
 struct Search<'a, 'f> {
     net: Net<'a>,
-    sums: &'a Sums,
+    at: &'a Positions,
+    sums: &'a Sums<'a>,
     lower: &'a [u8],
     upper: &'a [u8],
     x: &'a mut [u8],
@@ -584,174 +810,185 @@ struct Search<'a, 'f> {
 
 impl Search<'_, '_> {
     fn all(&mut self) {
-        let places = self.net.places();
         self.x.copy_from_slice(self.lower);
         let mut fixed = 0;
-        for p in 0..places {
-            let held = self.lower[p] == self.upper[p];
-            let node = self.net.hangs(p);
-            self.ups[p] = if node > self.net.stages.len() && self.lower[node - 1] == self.upper[node - 1] {
-                self.ups[node - 1]
-            } else {
-                node
-            };
-            self.skips[p + 1] = if held { self.skips[p] } else { p + 1 };
+        for t in 0..self.x.len() {
+            let held = self.lower[t] == self.upper[t];
+            self.ups[t] = self.arrival(self.at.hangs[t]);
+            self.skips[t + 1] = if held { self.skips[t] } else { t + 1 };
             if held {
-                let (weight, driven) = (self.sums.weights[p], self.sums.driven[p]);
-                fixed += self.net.step(weight, self.net.wire_at(p), self.lower[p], driven).delay;
+                fixed += self.sums.own_delay(&self.net, t, self.lower[t]);
             }
         }
-        match self.skips[places] {
+        match self.skips[self.x.len()] {
             0 => self.found.keep(self.x, fixed),
             left if self.skips[left - 1] == 0 => self.last(left, fixed),
-            left => self.places_before(left, fixed),
+            left => self.positions_before(left, fixed),
         }
     }
 
-    /// Takes every sizing that has the indices of x but at the place before `left`, the last one that is free.
+    /// The node at which a load at `node` arrives, through the held wires above it.
+    fn arrival(&self, node: usize) -> usize {
+        let is_wire = |a: usize| self.net.segment_at(self.at.order[a]).is_some();
+        match node.checked_sub(1) {
+            Some(a) if self.lower[a] == self.upper[a] && is_wire(a) => self.ups[a],
+            _ => node,
+        }
+    }
+
+    /// Takes every sizing that has the indices of x but at the position before `left`, the last one that is free.
     fn last(&mut self, left: usize, added: u64) {
-        let p = left - 1;
-        let (weight, upstream) = (self.sums.weights[p], self.sums.upstream[p]);
-        let driven = self.sums.driven[p] + self.gathered[p + 1];
-        let wire = self.net.wire_at(p);
+        let t = left - 1;
+        let (weight, upstream) = (self.sums.weights[t], self.sums.upstream[t]);
+        let driven = self.sums.driven[t] + self.gathered[t + 1];
+        let wire = self.net.wire_at(self.at.order[t]);
         let reached = |net: &Net, k: u8| {
             let step = net.step(weight, wire, k, driven);
             added + step.delay + upstream * step.load
         };
-        let mut k = self.lower[p];
-        while k <= self.upper[p] && reached(&self.net, k) > self.found.least {
+        let mut k = self.lower[t];
+        while k <= self.upper[t] && reached(&self.net, k) > self.found.least {
             k += 1;
         }
-        for k in k..=self.upper[p] {
+        for k in k..=self.upper[t] {
             let delay = reached(&self.net, k);
             if delay <= self.found.least {
-                self.x[p] = k;
+                self.x[t] = k;
                 self.found.keep(self.x, delay);
             }
         }
     }
 
-    /// Takes every sizing that has the indices of x from `left` on; the place before `left` is free, and not the last
+    /// Takes every sizing that has the indices of x from `left` on; the position before `left` is free, and not the last
     /// one that is.
-    fn places_before(&mut self, left: usize, added: u64) {
-        let p = left - 1;
-        let (weight, upstream) = (self.sums.weights[p], self.sums.upstream[p]);
-        let driven = self.sums.driven[p] + self.gathered[p + 1];
-        let wire = self.net.wire_at(p);
-        let rest = self.skips[p];
+    fn positions_before(&mut self, left: usize, added: u64) {
+        let t = left - 1;
+        let (weight, upstream) = (self.sums.weights[t], self.sums.upstream[t]);
+        let driven = self.sums.driven[t] + self.gathered[t + 1];
+        let wire = self.net.wire_at(self.at.order[t]);
+        let rest = self.skips[t];
         let further = self.skips[rest - 1];
-        let node = self.ups[p];
+        let node = self.ups[t];
         let before = self.gathered[node];
-        for k in self.lower[p]..=self.upper[p] {
+        for k in self.lower[t]..=self.upper[t] {
             let step = self.net.step(weight, wire, k, driven);
             let reached = added + step.delay + upstream * step.load;
-            self.x[p] = k;
+            self.x[t] = k;
             self.gathered[node] = before + step.load;
             if further == 0 {
                 self.last(rest, reached);
             } else {
-                self.places_before(rest, reached);
+                self.positions_before(rest, reached);
             }
         }
         self.gathered[node] = before;
     }
 }
 
-/// The search that carries loads and delay along, from the last place to the first.
+/// The search that carries loads and delay along, from the last position to the first. What a place drives hangs behind its
+/// position: the first there, and the next behind the same position after each.
 struct PassSearch<'a, 'f> {
     net: Net<'a>,
-    links: &'a Links,
-    weights: &'a [u64],
+    order: &'a [usize],
+    first: [usize; PLACES + 1],
+    next: [usize; PLACES],
+    weights: [u64; PLACES],
+    loads: [u64; PLACES],
     lower: &'a [u8],
     upper: &'a [u8],
     x: &'a mut [u8],
-    loads: &'a mut [u64],
     found: &'a mut Found<'f>,
 }
 
-impl PassSearch<'_, '_> {
-    /// The load that a stage drives, from the loads of the places after it.
-    fn driven_by_stage(&self, s: usize) -> u64 {
-        let stages = self.net.stages.len();
-        if s + 1 == stages {
-            self.links.sum(&self.loads[stages..], self.links.first[0])
-        } else {
-            self.loads[s + 1]
+impl<'a, 'f> PassSearch<'a, 'f> {
+    fn new(
+        net: &Net<'a>,
+        at: &'a Positions,
+        lower: &'a [u8],
+        upper: &'a [u8],
+        x: &'a mut [u8],
+        found: &'a mut Found<'f>,
+    ) -> Self {
+        let places = lower.len();
+        let mut search = PassSearch {
+            net: *net,
+            order: &at.order[..places],
+            first: [places; PLACES + 1],
+            next: [places; PLACES],
+            weights: [0; PLACES],
+            loads: [0; PLACES],
+            lower,
+            upper,
+            x,
+            found,
+        };
+        at.weigh(net, &mut search.weights);
+        for (t, &node) in at.hangs[..places].iter().enumerate().rev() {
+            search.next[t] = search.first[node];
+            search.first[node] = t;
         }
+        search
     }
 
-    /// The load that a segment drives: its sink and its branches.
-    fn driven_by_segment(&self, segment: &Record, i: usize) -> u64 {
-        word(segment, 8) + self.links.sum(&self.loads[self.net.stages.len()..], self.links.first[i + 1])
+    /// The load behind a position, from the loads of the places that hang there.
+    fn behind(&self, t: usize) -> u64 {
+        let mut sum = 0;
+        let mut i = self.first[t + 1];
+        while i < self.order.len() {
+            sum += self.loads[i];
+            i = self.next[i];
+        }
+        sum
     }
 
-    /// Puts a stage at a size; the answer is what that adds to the delay.
-    fn put_size(&mut self, p: usize, k: u8, weight: u64, driven: u64) -> u64 {
+    /// Puts a driver at a size; the answer is what that adds to the delay.
+    fn put_size(&mut self, t: usize, k: u8, driven: u64) -> u64 {
         let size = &self.net.sizes[usize::from(k)];
-        self.x[p] = k;
-        self.loads[p] = word(size, 8);
-        weight * (word(size, 4) * (word(size, 12) + driven))
+        self.x[t] = k;
+        self.loads[t] = word(size, 8);
+        self.weights[t] * (word(size, 4) * (word(size, 12) + driven))
     }
 
     /// Puts a segment at a width; the answer is what that adds to the delay.
-    fn put_width(&mut self, p: usize, k: u8, weight: u64, wire: Wire, driven: u64) -> u64 {
+    fn put_width(&mut self, t: usize, k: u8, wire: Wire, driven: u64) -> u64 {
         let Wire { rows, length } = wire;
         let row = &rows[usize::from(k)];
         let own = word(row, 8) * length;
-        self.x[p] = k;
-        self.loads[p] = own + driven;
-        weight * (word(row, 4) * length * (own + 2 * driven))
+        self.x[t] = k;
+        self.loads[t] = own + driven;
+        self.weights[t] * (word(row, 4) * length * (own + 2 * driven))
     }
 
     /// Takes every sizing that has the indices of x from `left` on.
-    fn places_before(&mut self, mut left: usize, mut added: u64) {
-        let stages = self.net.stages.len();
+    fn positions_before(&mut self, mut left: usize, mut added: u64) {
         while left > 0 && self.lower[left - 1] == self.upper[left - 1] {
             left -= 1;
-            let (k, weight) = (self.lower[left], self.weights[left]);
-            added += if left < stages {
-                self.put_size(left, k, weight, self.driven_by_stage(left))
-            } else {
-                let i = left - stages;
-                let segment = &self.net.segments[i];
-                self.put_width(left, k, weight, self.net.wire(segment), self.driven_by_segment(segment, i))
+            let (k, behind) = (self.lower[left], self.behind(left));
+            added += match self.net.segment_at(self.order[left]) {
+                None => self.put_size(left, k, behind),
+                Some(segment) => self.put_width(left, k, self.net.wire(segment), word(segment, 8) + behind),
             };
         }
-        if left == 0 {
+        let Some(t) = left.checked_sub(1) else {
             self.found.keep(self.x, added);
             return;
-        }
-        let p = left - 1;
-        let weight = self.weights[p];
-        if p < stages {
-            let driven = self.driven_by_stage(p);
-            for k in self.lower[p]..=self.upper[p] {
-                let step = self.put_size(p, k, weight, driven);
-                self.places_before(p, added + step);
-            }
-        } else {
-            let i = p - stages;
-            let segment = &self.net.segments[i];
-            let driven = self.driven_by_segment(segment, i);
-            let wire = self.net.wire(segment);
-            for k in self.lower[p]..=self.upper[p] {
-                let step = self.put_width(p, k, weight, wire, driven);
-                self.places_before(p, added + step);
-            }
-        }
-    }
-}
-
-/// The search that evaluates the whole delay at each sizing between the bounds.
-fn search_whole(net: &Net, links: &Links, lower: &[u8], upper: &[u8], x: &mut [u8], found: &mut Found) {
-    x.copy_from_slice(lower);
-    loop {
-        found.keep(x, net.figures::<false>(links, x).0);
-        let Some(p) = (0..x.len()).find(|&p| x[p] < upper[p]) else {
-            return;
         };
-        x[p] += 1;
-        x[..p].copy_from_slice(&lower[..p]);
+        let behind = self.behind(t);
+        match self.net.segment_at(self.order[t]) {
+            None => {
+                for k in self.lower[t]..=self.upper[t] {
+                    let step = self.put_size(t, k, behind);
+                    self.positions_before(t, added + step);
+                }
+            }
+            Some(segment) => {
+                let (wire, driven) = (self.net.wire(segment), word(segment, 8) + behind);
+                for k in self.lower[t]..=self.upper[t] {
+                    let step = self.put_width(t, k, wire, driven);
+                    self.positions_before(t, added + step);
+                }
+            }
+        }
     }
 }
 
@@ -760,10 +997,11 @@ fn check_sizing(net: &Net, sizing: &[u8]) -> Result<(), usize> {
     if sizing.len() < net.places() {
         return Err(15);
     }
-    let (sizes, widths) = sizing.split_at(net.stages.len());
+    let x = net.by_kind(sizing);
     let allowed = |k: &u8, low: u8, high: u8| low <= *k && *k <= high;
-    if !sizes.iter().zip(net.stages).all(|(k, r)| allowed(k, r[2], r[3]))
-        || !widths.iter().zip(net.segments).all(|(k, r)| allowed(k, r[13], r[14]))
+    if !x.stages.iter().zip(net.stages).all(|(k, r)| allowed(k, r[2], r[3]))
+        || !x.segments.iter().zip(net.segments).all(|(k, r)| allowed(k, r[13], r[14]))
+        || !x.repeaters.iter().zip(net.repeaters).all(|(k, r)| allowed(k, r[3], r[4]))
     {
         return Err(16);
     }
@@ -775,8 +1013,7 @@ fn measure_by<const PASS: bool>(job: &[u8], sizing: &[u8]) -> Result<(u64, u64),
     let mut links = Links::new();
     let net = check(job, &mut links)?;
     check_sizing(&net, sizing)?;
-    let sizing = &sizing[..net.places()];
-    Ok(net.figures::<PASS>(&links, sizing))
+    Ok(Tree::new(&net, &links).figures::<PASS>(sizing))
 }
 
 /// Measures as (a).
@@ -794,6 +1031,14 @@ pub fn measure_fastest(job: &[u8], sizing: &[u8]) -> Result<(u64, u64), usize> {
 /// Both ends of the tie at a place, and the delay that either reaches.
 pub type Refined = (u8, u8, u64);
 
+/// Refines a net as (a), by position.
+fn refine_in_order(net: &Net, sizing: &[u8], place: usize) -> Tie {
+    let at = Positions::new(net);
+    let mut sums = Sums::new(&at);
+    at.weigh(net, &mut sums.weights);
+    sums.refined(net, sizing, place)
+}
+
 /// Refines, or tells the number of the first question that fails.
 fn refine_by(job: &[u8], sizing: &[u8], place: usize, way: Way) -> Result<Refined, usize> {
     let mut links = Links::new();
@@ -803,24 +1048,11 @@ fn refine_by(job: &[u8], sizing: &[u8], place: usize, way: Way) -> Result<Refine
     if places <= place {
         return Err(17);
     }
-    let mut held = [0; PLACES];
-    let x = &mut held[..places];
-    x.copy_from_slice(&sizing[..places]);
+    let x = &sizing[..places];
     let tie = match way {
-        Way::AsLibrary => {
-            let mut sums = Sums::new(&net, &links);
-            sums.hold(&net, x, x);
-            for p in 0..=place {
-                sums.go_upstream(&net, x, x, p);
-            }
-            let tie = sums.settled(&net, place);
-            Tie {
-                cost: sums.delay(&net, x) + tie.cost - sums.cost(&net, place, net.wire_at(place), x[place]),
-                ..tie
-            }
-        }
-        Way::WholeDelays => net.settle::<false>(&links, x, place),
-        Way::Fastest => net.settle::<true>(&links, x, place),
+        Way::AsLibrary => refine_in_order(&net, x, place),
+        Way::WholeDelays => Tree::new(&net, &links).refined::<false>(x, place),
+        Way::Fastest => Tree::new(&net, &links).refined::<true>(x, place),
     };
     Ok((tie.lowest, tie.highest, tie.cost))
 }
@@ -849,13 +1081,83 @@ fn room(lower: &[u8], upper: &[u8]) -> Option<u64> {
     })
 }
 
-fn write_reply(reply: &mut [u8], delay: u64, lower: &[u8], upper: &[u8], lean: &[u8], wide: &[u8]) {
+/// Writes the bounds and what the search found; the sizings have place p at `at(p)`.
+fn write_reply(reply: &mut [u8], lower: &[u8], upper: &[u8], found: &Found, at: impl Fn(usize) -> usize) {
     let (records, _) = reply.as_chunks_mut::<8>();
     let (first, records) = records.split_first_mut().expect("the reply has a first record");
-    *first = delay.to_le_bytes();
+    *first = found.least.to_le_bytes();
     for (p, record) in records[..lower.len()].iter_mut().enumerate() {
-        *record = [lower[p], upper[p], lean[p], wide[p], 0, 0, 0, 0];
+        let t = at(p);
+        *record = [lower[t], upper[t], found.lean[t], found.wide[t], 0, 0, 0, 0];
     }
+}
+
+/// Question 14, the search where it is passed, and the reply: a search that is not made has found 255 everywhere.
+fn answer(
+    reply: &mut [u8],
+    lower: &[u8],
+    upper: &[u8],
+    search: impl FnOnce(&mut [u8], &mut Found),
+    at: impl Fn(usize) -> usize,
+) -> usize {
+    let places = lower.len();
+    let (mut x, mut lean, mut wide) = ([0; PLACES], [255; PLACES], [255; PLACES]);
+    let mut found = Found {
+        least: u64::MAX,
+        lean: &mut lean[..places],
+        wide: &mut wide[..places],
+    };
+    let is_searched = room(lower, upper).is_some();
+    if is_searched {
+        search(&mut x[..places], &mut found);
+    }
+    write_reply(reply, lower, upper, &found, at);
+    if is_searched { 0 } else { 14 }
+}
+
+/// Sizes a net as (a), by position.
+fn size_in_order(net: &Net, reply: &mut [u8]) -> usize {
+    let places = net.places();
+    let at = Positions::new(net);
+    let mut sums = Sums::new(&at);
+    at.weigh(net, &mut sums.weights);
+    let (mut lower, mut upper) = ([0; PLACES], [0; PLACES]);
+    let (lower, upper) = (&mut lower[..places], &mut upper[..places]);
+    sums.bound(net, lower, Side::Below);
+    sums.bound(net, upper, Side::Above);
+    let search = |x: &mut [u8], found: &mut Found| sums.search(net, lower, upper, x, found);
+    answer(reply, lower, upper, search, |p| at.position[p])
+}
+
+/// The bounds of a net by whole delays, by place.
+fn bounds_by_delays<const PASS: bool>(tree: &Tree, lower: &mut [u8], upper: &mut [u8]) {
+    tree.bound::<PASS>(lower, Side::Below);
+    tree.bound::<PASS>(upper, Side::Above);
+}
+
+/// Sizes a net as (b), by place.
+fn size_by_delays(tree: &Tree, reply: &mut [u8]) -> usize {
+    let places = tree.net.places();
+    let (mut lower, mut upper) = ([0; PLACES], [0; PLACES]);
+    let (lower, upper) = (&mut lower[..places], &mut upper[..places]);
+    bounds_by_delays::<false>(tree, lower, upper);
+    let search = |x: &mut [u8], found: &mut Found| tree.search(lower, upper, x, found);
+    answer(reply, lower, upper, search, |p| p)
+}
+
+/// Sizes a net as (c): the bounds by place, the search between them by position.
+fn size_by_passes(tree: &Tree, reply: &mut [u8]) -> usize {
+    let places = tree.net.places();
+    let mut by_place = [[0; PLACES]; 2];
+    let [lower, upper] = &mut by_place;
+    bounds_by_delays::<true>(tree, &mut lower[..places], &mut upper[..places]);
+    let at = Positions::new(tree.net);
+    let [lower, upper] = by_place.map(|x| at.arranged(&x));
+    let (lower, upper) = (&lower[..places], &upper[..places]);
+    let search = |x: &mut [u8], found: &mut Found| {
+        PassSearch::new(tree.net, &at, lower, upper, x, found).positions_before(places, 0);
+    };
+    answer(reply, lower, upper, search, |p| at.position[p])
 }
 
 fn size_by(job: &[u8], reply: &mut [u8], way: Way) -> usize {
@@ -864,76 +1166,14 @@ fn size_by(job: &[u8], reply: &mut [u8], way: Way) -> usize {
         Ok(net) => net,
         Err(number) => return number,
     };
-    let places = net.places();
-    if reply.len() < 8 * (1 + places) {
+    if reply.len() < 8 * (1 + net.places()) {
         return 12;
     }
-    let (mut lower, mut upper) = ([0; PLACES], [0; PLACES]);
-    let (lower, upper) = (&mut lower[..places], &mut upper[..places]);
-    let mut sums = None;
     match way {
-        Way::AsLibrary => {
-            let sums = sums.insert(Sums::new(&net, &links));
-            sums.bound(&net, lower, Side::Below);
-            sums.bound(&net, upper, Side::Above);
-        }
-        Way::WholeDelays => {
-            net.bound::<false>(&links, lower, Side::Below);
-            net.bound::<false>(&links, upper, Side::Above);
-        }
-        Way::Fastest => {
-            net.bound::<true>(&links, lower, Side::Below);
-            net.bound::<true>(&links, upper, Side::Above);
-        }
+        Way::AsLibrary => size_in_order(&net, reply),
+        Way::WholeDelays => size_by_delays(&Tree::new(&net, &links), reply),
+        Way::Fastest => size_by_passes(&Tree::new(&net, &links), reply),
     }
-    if room(lower, upper).is_none() {
-        write_reply(reply, u64::MAX, lower, upper, &[255; PLACES], &[255; PLACES]);
-        return 14;
-    }
-    let (mut x, mut lean, mut wide) = ([0; PLACES], [0; PLACES], [0; PLACES]);
-    let (x, lean, wide) = (&mut x[..places], &mut lean[..places], &mut wide[..places]);
-    let mut found = Found {
-        least: u64::MAX,
-        lean,
-        wide,
-    };
-    if let Some(mut sums) = sums {
-        sums.hold(&net, lower, upper);
-        for p in 0..places {
-            sums.go_upstream(&net, lower, upper, p);
-        }
-        Search {
-            net,
-            sums: &sums,
-            lower,
-            upper,
-            x,
-            ups: [0; PLACES],
-            skips: [0; PLACES + 1],
-            gathered: [0; PLACES + 1],
-            found: &mut found,
-        }
-        .all();
-    } else if way == Way::WholeDelays {
-        search_whole(&net, &links, lower, upper, x, &mut found);
-    } else {
-        let (mut weights, mut loads) = ([0; PLACES], [0; PLACES]);
-        let (weights, loads) = (&mut weights[..places], &mut loads[..places]);
-        net.weigh(&links, weights);
-        PassSearch {
-            net,
-            links: &links,
-            weights,
-            lower,
-            upper,
-            x,
-            loads,
-            found: &mut found,
-        }
-        .places_before(places, 0);
-    }
-    write_reply(reply, found.least, lower, upper, found.lean, found.wide);
-    0
 }
 
 /// Sizes as (a).
@@ -954,12 +1194,11 @@ pub fn size_fastest(job: &[u8], reply: &mut [u8]) -> usize {
     size_by(job, reply, Way::Fastest)
 }
 
-/// The bounds of a job that passes the questions.
+/// The bounds of a job that passes the questions, by place.
 pub fn bounds(job: &[u8]) -> Result<(Vec<u8>, Vec<u8>), usize> {
     let mut links = Links::new();
     let net = check(job, &mut links)?;
     let (mut lower, mut upper) = (vec![0; net.places()], vec![0; net.places()]);
-    net.bound::<true>(&links, &mut lower, Side::Below);
-    net.bound::<true>(&links, &mut upper, Side::Above);
+    bounds_by_delays::<true>(&Tree::new(&net, &links), &mut lower, &mut upper);
     Ok((lower, upper))
 }

@@ -10,8 +10,8 @@ static uint8_t job[65537];
 
 int main(int count, char **words)
 {
-    /* No job has more than 68 places, and indices behind the last place make no difference. */
-    uint8_t sizing[68];
+    /* No job has more than 76 places, and indices behind the last place make no difference. */
+    uint8_t sizing[76];
     size_t places = 0;
     for (int i = 1; i < count; i++) {
         char *end;

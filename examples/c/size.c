@@ -17,7 +17,7 @@ static const uint8_t built_in[] = {
 /* A file of more than 65,536 bytes is too long; one byte more tells it. */
 static uint8_t from_file[65537];
 
-/* The number of places of a job that is not refused: its stages and its segments. */
+/* The number of places of a job that is not refused: its stages, its segments and its repeaters. */
 static size_t places_of(const uint8_t *job, size_t length)
 {
     size_t places = 0;

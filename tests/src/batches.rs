@@ -1,16 +1,20 @@
 //! Batches of calls: for small jobs, damaged jobs, jobs of every length, jobs at the limits, large jobs and jobs around the
-//! largest room.
+//! largest room; and of each the like for jobs with repeaters.
 
 use std::collections::BTreeMap;
 
 use crate::calls::{Call, expected};
 use crate::damage::damage;
 use crate::generate::{
-    allowed_sizing, any_place, any_reply, any_sizing, large_plan, marked, roomy_plan, small_plan, tied_star, weightless_plan,
+    allowed_sizing, any_place, any_reply, any_sizing, large_plan, large_repeater_plan, marked, repeater_plan, roomy_plan,
+    small_plan, tied_star, weightless_plan, weightless_repeaters,
 };
-use crate::limits::{largest_plans, limits};
+use crate::limits::{Limit, largest_plans, limits, repeater_faults, repeater_limits};
 use crate::plan::Plan;
-use crate::questions::{fails_in_layer_1, first_no, layer_faults, read, stray_sink_alone};
+use crate::questions::{
+    MOST_PLACES, MOST_UNREPEATED, Net, fails_in_layer_1, first_no, layer_faults, range_faults, read, site_faults,
+    stray_sink_alone,
+};
 use crate::random::Random;
 use crate::reference::{Refined, measure, refine};
 use crate::worked;
@@ -46,6 +50,33 @@ pub const LAYER_1: &str = "layer 1 alone";
 
 /// A call on a job that passes and has segments on both layers.
 pub const BOTH_LAYERS: &str = "segments on both layers";
+
+/// A call that is refused with 22 or 23 for one of their ways alone: a segment that is missing or has no branches, segment numbers
+/// that stay or fall; a range that is empty or beyond the table.
+pub const REPEATER_FAULTS: [&str; 6] = [
+    "22 for a missing segment",
+    "22 for a segment without branches",
+    "22 for a segment twice",
+    "22 for segments that fall",
+    "23 for an empty range",
+    "23 for a range beyond the table",
+];
+
+/// A call that is refused with a number on a job that fails 22 or 23 too, whichever is asked later.
+pub const BEFORE_FAULTS: &str = "a repeater's fault behind another number";
+
+/// A call on a job that passes and has repeaters; eight of them; one behind another; one with no weight behind it, where there are
+/// weights elsewhere.
+pub const REPEATERS: &str = "repeaters";
+pub const EIGHT_REPEATERS: &str = "eight repeaters";
+pub const CHAINED: &str = "a repeater behind a repeater";
+pub const WEIGHTLESS_BEHIND: &str = "no weight behind a repeater";
+
+/// A refine at a repeater with weights behind it that has several indices: one of them is best, or several; and several best where
+/// there is another repeater above it or below.
+pub const ONE_BEST_REPEATER: &str = "refine at a repeater with one best index";
+pub const TIE_AT_REPEATER: &str = "refine at a repeater with a tie";
+pub const TIE_IN_CHAIN: &str = "refine at a repeater with a tie, another on its path";
 
 /// How often each operation returned each number, and what its call met.
 pub type Counts = BTreeMap<(&'static str, u64), usize>;
@@ -88,14 +119,106 @@ fn met_in_layers(call: &Call) -> Option<&'static str> {
             let on_layer = |layer: usize| read(job).is_ok_and(|net| net.segments.iter().any(|segment| segment.layer == layer));
             (on_layer(0) && on_layer(1)).then_some(BOTH_LAYERS)
         }
-        24 if !matches!(call, Call::Choose { .. }) => {
+        24 if tells(call) => {
             let faults = layer_faults(job);
             let alone = faults.iter().filter(|&&fault| fault).count() == 1;
             let way = faults.iter().position(|&fault| fault)?;
             alone.then_some(LAYER_FAULTS[way])
         }
-        number if !matches!(call, Call::Choose { .. }) => fails_in_layer_1(job, number).then_some(LAYER_1),
+        number if tells(call) => fails_in_layer_1(job, number).then_some(LAYER_1),
         _ => None,
+    }
+}
+
+/// Whether a call tells its number; choose does not.
+fn tells(call: &Call) -> bool {
+    !matches!(call, Call::Choose { .. })
+}
+
+/// What a call meets in the repeaters of its job: what there is behind them, what a refine meets at one, or, of a call that tells
+/// its number, their faults.
+fn met_in_repeaters(call: &Call) -> Vec<&'static str> {
+    let job = job_of(call);
+    match first_no(job) {
+        0 => {
+            let net = read(job).expect("a job that passes");
+            let mut met = met_behind(&net);
+            if let Call::Refine { job, sizing, place, .. } = call {
+                met.extend(met_at_repeater(&net, refine(job, sizing, *place), *place));
+            }
+            met
+        }
+        number if number > 1 && tells(call) => met_in_faults(job, number).into_iter().collect(),
+        _ => Vec::new(),
+    }
+}
+
+/// What a job of whole records that is refused with a number meets in the faults of its repeaters: one way alone, or a fault of a
+/// question behind that number's.
+fn met_in_faults(job: &[u8], number: u64) -> Option<&'static str> {
+    let (sites, ranges) = (site_faults(job), range_faults(job));
+    let faults = [&sites[..], &ranges].concat();
+    let behind = match number {
+        23 => &[],
+        22 => &faults[sites.len()..],
+        _ => &faults[..],
+    };
+    if behind.contains(&true) {
+        return Some(BEFORE_FAULTS);
+    }
+    let alone = faults.iter().filter(|&&fault| fault).count() == 1;
+    let way = faults.iter().position(|&fault| fault)?;
+    alone.then_some(REPEATER_FAULTS[way])
+}
+
+/// The weight of the sinks behind a repeater.
+fn weight_behind(net: &Net, repeater: usize) -> u64 {
+    let behind = (0..net.segments.len()).filter(|&s| net.paths[s][1..].contains(&net.sites[repeater]));
+    behind
+        .filter_map(|s| net.segments[s].sink.as_ref())
+        .map(|sink| sink.weight)
+        .sum()
+}
+
+/// Whether a repeater is below another, or above.
+fn in_chain(net: &Net, repeater: usize) -> bool {
+    let below = |r: usize, other: usize| net.paths[net.sites[r]][1..].contains(&net.sites[other]);
+    (0..net.sites.len()).any(|other| below(repeater, other) || below(other, repeater))
+}
+
+/// What a call meets in the repeaters of a net, whichever operation it is of.
+fn met_behind(net: &Net) -> Vec<&'static str> {
+    let repeaters = 0..net.sites.len();
+    let weighted = net
+        .segments
+        .iter()
+        .any(|segment| segment.sink.as_ref().is_some_and(|sink| sink.weight > 0));
+    let all = [
+        (!repeaters.is_empty(), REPEATERS),
+        (repeaters.len() == 8, EIGHT_REPEATERS),
+        (repeaters.clone().any(|r| in_chain(net, r)), CHAINED),
+        (
+            weighted && repeaters.clone().any(|r| weight_behind(net, r) == 0),
+            WEIGHTLESS_BEHIND,
+        ),
+    ];
+    all.into_iter().filter(|(met, _)| *met).map(|(_, name)| name).collect()
+}
+
+/// What a refine meets that is answered at the place of a repeater which has several indices and weights behind it.
+fn met_at_repeater(net: &Net, refined: Refined, place: usize) -> Vec<&'static str> {
+    let Some(repeater) = place.checked_sub(net.repeater_place(0)) else {
+        return Vec::new();
+    };
+    if refined.number != 0 || net.ranges[place].lowest == net.ranges[place].highest || weight_behind(net, repeater) == 0 {
+        return Vec::new();
+    }
+    if refined.tie.lowest == refined.tie.highest {
+        vec![ONE_BEST_REPEATER]
+    } else if in_chain(net, repeater) {
+        vec![TIE_AT_REPEATER, TIE_IN_CHAIN]
+    } else {
+        vec![TIE_AT_REPEATER]
     }
 }
 
@@ -127,7 +250,8 @@ fn met_at(job: &[u8], sizing: &[u8], place: usize) -> Option<&'static str> {
 
 /// Counts a call that has a number, by its operation and by what it meets.
 pub fn count(counts: &mut Counts, call: &Call, number: u64) {
-    for name in [Some(operation(call)), met(call), met_in_layers(call)].into_iter().flatten() {
+    let met = [Some(operation(call)), met(call), met_in_layers(call)].into_iter().flatten();
+    for name in met.chain(met_in_repeaters(call)) {
         *counts.entry((name, number)).or_default() += 1;
     }
 }
@@ -153,7 +277,7 @@ fn a_measure(random: &mut Random, job: &[u8], plan: &Plan) -> Call {
 fn a_refine(random: &mut Random, job: &[u8], plan: &Plan) -> Call {
     let lowest = random.byte();
     let sizing = any_sizing(random, plan);
-    let place = any_place(random, plan.places());
+    let place = any_place(random, plan);
     let highest = random.byte();
     Call::Refine {
         job: job.to_vec(),
@@ -182,11 +306,11 @@ fn a_size(random: &mut Random, job: &[u8], plan: &Plan) -> Call {
     }
 }
 
-/// A size of a job with a buffer that is long enough for every job.
-fn a_roomy_size(job: &[u8]) -> Call {
+/// A size of a job with a buffer that is five bytes longer than the reply of a job with so many places.
+fn a_roomy_size(job: &[u8], places: usize) -> Call {
     Call::Size {
         job: job.to_vec(),
-        reply: marked(8 * 69 + 5),
+        reply: marked(8 * (1 + places) + 5),
     }
 }
 
@@ -203,33 +327,59 @@ pub fn one_of_each(random: &mut Random, job: &[u8], plan: &Plan) -> Vec<Call> {
 /// The calls for one small job.
 pub fn small_calls(random: &mut Random, most: u128) -> Vec<Call> {
     let plan = small_plan(random, most);
+    calls_of(random, &plan)
+}
+
+/// The calls for one small job with repeaters, and refine at each of them.
+pub fn repeater_calls(random: &mut Random, most: u128) -> Vec<Call> {
+    let plan = repeater_plan(random, most);
+    let mut calls = calls_of(random, &plan);
+    let first = plan.stages.len() + plan.segments.len();
+    calls.extend((first..plan.places()).map(|place| refine_at(random, &plan, place)));
+    calls
+}
+
+/// Some calls of each operation, for the job of a plan.
+fn calls_of(random: &mut Random, plan: &Plan) -> Vec<Call> {
     let job = plan.bytes();
-    let mut calls = one_of_each(random, &job, &plan);
+    let mut calls = one_of_each(random, &job, plan);
     calls.push(Call::Size {
         job: job.clone(),
         reply: marked(8 * (1 + plan.places())),
     });
-    calls.push(a_measure(random, &job, &plan));
-    calls.push(a_refine(random, &job, &plan));
-    calls.push(a_refine(random, &job, &plan));
-    calls.push(a_choose(random, &job, &plan));
+    calls.push(a_measure(random, &job, plan));
+    calls.push(a_refine(random, &job, plan));
+    calls.push(a_refine(random, &job, plan));
+    calls.push(a_choose(random, &job, plan));
     calls
 }
 
 /// The calls for one damaged job.
 pub fn damaged_calls(random: &mut Random, most: u128) -> Vec<Call> {
     let plan = small_plan(random, most);
-    let mut job = plan.bytes();
-    damage(random, &mut job);
-    one_of_each(random, &job, &plan)
+    calls_of_damaged(random, &plan)
 }
 
-/// The calls for every length of a worked job and of the clock net, one of each operation: cut off, or with up to two records
-/// more.
+/// The calls for one damaged job with repeaters.
+pub fn damaged_repeater_calls(random: &mut Random, most: u128) -> Vec<Call> {
+    let plan = repeater_plan(random, most);
+    calls_of_damaged(random, &plan)
+}
+
+/// One call of each operation, for the job of a plan, damaged.
+fn calls_of_damaged(random: &mut Random, plan: &Plan) -> Vec<Call> {
+    let mut job = plan.bytes();
+    damage(random, &mut job);
+    one_of_each(random, &job, plan)
+}
+
+/// The calls for every length of a worked job, of the clock net and of jobs with repeaters, one of each operation: cut off, or with
+/// up to two records more.
 pub fn length_calls() -> Vec<Call> {
     let mut random = Random::new(15);
     let mut calls = Vec::new();
-    for plan in worked::named().into_iter().map(|(_, plan)| plan).chain([worked::clock()]) {
+    let named = worked::named().into_iter().map(|(_, plan)| plan);
+    for plan in named.chain([worked::clock()]).chain(worked::with_repeaters()) {
         let mut longest = plan.bytes();
         let last = longest[longest.len() - 16..].to_vec();
         longest.extend([&last[..], &last].concat());
@@ -240,29 +390,53 @@ pub fn length_calls() -> Vec<Call> {
     calls
 }
 
-/// The calls for one job of many segments: refine at every place, and the rest.
+/// The calls for one job of many segments.
 pub fn large_calls(random: &mut Random) -> Vec<Call> {
     let plan = large_plan(random);
+    calls_of_large(random, &plan, MOST_UNREPEATED)
+}
+
+/// The calls for one job of many segments with repeaters.
+pub fn large_repeater_calls(random: &mut Random) -> Vec<Call> {
+    let plan = large_repeater_plan(random);
+    calls_of_large(random, &plan, MOST_PLACES)
+}
+
+/// Refine at every place of the job of a plan, and the rest; a buffer for its reply has room for so many places.
+fn calls_of_large(random: &mut Random, plan: &Plan, room_for: usize) -> Vec<Call> {
     let job = plan.bytes();
-    let mut calls = one_of_each(random, &job, &plan);
-    calls.push(a_roomy_size(&job));
-    for place in 0..plan.places() {
-        calls.push(Call::Refine {
-            job: job.clone(),
-            sizing: allowed_sizing(random, &plan),
-            place,
-            ends: marked(10),
-        });
-    }
+    let mut calls = one_of_each(random, &job, plan);
+    calls.push(a_roomy_size(&job, room_for));
+    calls.extend((0..plan.places()).map(|place| refine_at(random, plan, place)));
     calls
 }
 
-/// The calls for every job at or just beyond a limit.
+/// A refine of the job of a plan at a place, with an allowed sizing.
+fn refine_at(random: &mut Random, plan: &Plan, place: usize) -> Call {
+    Call::Refine {
+        job: plan.bytes(),
+        sizing: allowed_sizing(random, plan),
+        place,
+        ends: marked(10),
+    }
+}
+
+/// The calls for every job at or just beyond a limit, without repeaters.
 pub fn limit_calls() -> Vec<Call> {
-    let mut random = Random::new(12);
+    calls_at(Random::new(12), limits(), MOST_UNREPEATED, 6)
+}
+
+/// The calls for every job with repeaters at or just beyond a limit.
+pub fn repeater_limit_calls() -> Vec<Call> {
+    calls_at(Random::new(16), repeater_limits(), MOST_PLACES, 10)
+}
+
+/// One call of each operation for each of a list of jobs: sizings and buffers have room for more than so many places, and refine
+/// asks one of the first.
+fn calls_at(mut random: Random, limits: Vec<Limit>, places: usize, first: usize) -> Vec<Call> {
     let mut calls = Vec::new();
-    for limit in limits() {
-        let sizing = vec![0; 70];
+    for limit in limits {
+        let sizing = vec![0; places + 2];
         let job = limit.job;
         calls.push(Call::Measure {
             job: job.clone(),
@@ -272,7 +446,7 @@ pub fn limit_calls() -> Vec<Call> {
         calls.push(Call::Refine {
             job: job.clone(),
             sizing: sizing.clone(),
-            place: random.below(6),
+            place: random.below(first),
             ends: marked(10),
         });
         calls.push(Call::Choose {
@@ -280,21 +454,77 @@ pub fn limit_calls() -> Vec<Call> {
             x: sizing.clone(),
             y: sizing,
         });
-        calls.push(a_roomy_size(&job));
+        calls.push(a_roomy_size(&job, places));
     }
     calls
 }
 
-/// The calls for every job of the largest size and figures.
+/// A job with six repeaters, one more, and so much room that 14 comes where the last is sound.
+pub fn roomy_with(random: &mut Random, repeater: [u8; 3]) -> Vec<u8> {
+    let mut plan = weightless_repeaters(random, &[16, 16, 16], &[8; 8], &[1; 6]);
+    plan.repeaters.push(repeater);
+    plan.bytes()
+}
+
+/// The calls for jobs that 22 or 23 refuses: where 12 would come, 14, 15, 16 or 17.
+pub fn fault_calls() -> Vec<Call> {
+    let mut random = Random::new(17);
+    let roomy =
+        [[8, 0, 15], [7, 0, 15], [5, 0, 15], [4, 0, 15], [6, 1, 0], [6, 0, 16]].map(|repeater| roomy_with(&mut random, repeater));
+    let jobs = repeater_faults().into_iter().map(|limit| limit.job).chain(roomy);
+    jobs.flat_map(|job| {
+        let places = job.chunks(16).filter(|record| record[0] >= 3).count();
+        let sizings = [vec![0; places], vec![0; places - 1], vec![255; places], Vec::new()];
+        let with_sizing = |sizing: &Vec<u8>| {
+            let mut calls = vec![Call::Measure {
+                job: job.clone(),
+                sizing: sizing.clone(),
+                figures: marked(16),
+            }];
+            calls.extend([0, places - 1, places, usize::MAX].map(|place| Call::Refine {
+                job: job.clone(),
+                sizing: sizing.clone(),
+                place,
+                ends: marked(10),
+            }));
+            calls.push(Call::Choose {
+                job: job.clone(),
+                x: sizings[0].clone(),
+                y: sizing.clone(),
+            });
+            calls
+        };
+        let lengths = [8 * (1 + places) + 3, 8 * (1 + places), 8 * (1 + places) - 1, 0];
+        let mut calls: Vec<Call> = sizings.iter().flat_map(with_sizing).collect();
+        calls.extend(lengths.map(|length| Call::Size {
+            job: job.clone(),
+            reply: marked(length),
+        }));
+        calls
+    })
+    .collect()
+}
+
+/// The calls for every job of the largest size and figures; for those with repeaters also size with a buffer of the reply's length
+/// and with one a byte shorter.
 pub fn largest_calls() -> Vec<Call> {
     let mut random = Random::new(13);
     let mut calls = Vec::new();
     for (_, plan) in largest_plans() {
         let job = plan.bytes();
-        for _ in 0..4 {
+        let (times, lengths) = if plan.repeaters.is_empty() {
+            (4, vec![])
+        } else {
+            (1, vec![8 * (1 + MOST_PLACES), 8 * (1 + MOST_PLACES) - 1])
+        };
+        for _ in 0..times {
             calls.extend(one_of_each(&mut random, &job, &plan));
         }
-        calls.push(a_roomy_size(&job));
+        calls.push(a_roomy_size(&job, plan.places()));
+        calls.extend(lengths.into_iter().map(|length| Call::Size {
+            job: job.clone(),
+            reply: marked(length),
+        }));
     }
     calls
 }
@@ -321,11 +551,38 @@ pub fn room_calls() -> Vec<Call> {
     plans.extend([worked::weightless(8), worked::weightless(9), worked::clock()]);
     plans.extend((0..200).map(|_| roomy_plan(&mut random)));
     plans.extend([10, 13, 15, 16, 16, 17, 17, 18, 24, 40, 63, 64].map(|count| tied_star(&mut random, count)));
+    calls_of_room(random, &plans, MOST_UNREPEATED)
+}
+
+/// Counts of indices at free stages, at segments of a chain and at repeaters, with room at, just below and just above 65,536.
+const REPEATER_ROOMS: [(&[u8], &[u8], &[u8]); 8] = [
+    (&[], &[1, 1, 1, 1, 1], &[16, 16, 16, 16]),
+    (&[16], &[2, 2, 2, 2, 2], &[4, 4, 8]),
+    (&[], &[1, 1, 1, 1, 1, 1, 1, 1, 1], &[4, 4, 4, 4, 4, 4, 4, 4]),
+    (&[2, 2, 2], &[2, 2, 2, 2, 2, 1, 1, 1, 1], &[2, 2, 2, 2, 2, 2, 2, 2]),
+    (&[13], &[1, 1, 7, 1, 5], &[12, 12]),
+    (&[], &[1, 1, 1, 3, 3, 3, 3, 3, 3], &[10, 9]),
+    (&[], &[1, 1, 1, 1, 1, 1, 1, 1, 2], &[4, 4, 4, 4, 4, 4, 4, 4]),
+    (&[16, 16, 16], &[8; 64], &[16; 8]),
+];
+
+/// The calls for jobs with repeaters around the largest room, and far beyond it.
+pub fn repeater_room_calls() -> Vec<Call> {
+    let mut random = Random::new(18);
+    let plans: Vec<Plan> = REPEATER_ROOMS
+        .iter()
+        .map(|(stages, segments, repeaters)| weightless_repeaters(&mut random, stages, segments, repeaters))
+        .collect();
+    calls_of_room(random, &plans, MOST_PLACES)
+}
+
+/// For each plan a size with a buffer that has room for so many places, and one call of each operation.
+fn calls_of_room(mut random: Random, plans: &[Plan], room_for: usize) -> Vec<Call> {
     plans
         .iter()
         .flat_map(|plan| {
             [
-                vec![a_roomy_size(&plan.bytes())],
+                vec![a_roomy_size(&plan.bytes(), room_for)],
                 one_of_each(&mut random, &plan.bytes(), plan),
             ]
             .concat()
@@ -370,7 +627,11 @@ fn plan_calls(plan: &Plan) -> Vec<Call> {
 /// The calls for the worked jobs: every sizing, every place, every pair.
 pub fn worked_calls() -> Vec<Call> {
     let mut calls: Vec<Call> = worked::named().iter().flat_map(|(_, plan)| plan_calls(plan)).collect();
-    calls.extend(worked::refused().into_iter().map(|(job, _)| a_roomy_size(&job)));
+    calls.extend(
+        worked::refused()
+            .into_iter()
+            .map(|(job, _)| a_roomy_size(&job, MOST_UNREPEATED)),
+    );
     calls
 }
 
@@ -380,6 +641,17 @@ pub fn layered_calls() -> Vec<Call> {
         .into_iter()
         .flat_map(|layer| plan_calls(&worked::on_layer(layer)))
         .collect();
-    calls.extend(worked::layered().into_iter().map(|(job, _)| a_roomy_size(&job)));
+    calls.extend(
+        worked::layered()
+            .into_iter()
+            .map(|(job, _)| a_roomy_size(&job, MOST_UNREPEATED)),
+    );
+    calls
+}
+
+/// The same for the worked jobs with repeaters.
+pub fn repeated_calls() -> Vec<Call> {
+    let mut calls: Vec<Call> = worked::with_repeaters().iter().flat_map(plan_calls).collect();
+    calls.extend(worked::repeated().into_iter().map(|(job, _)| a_roomy_size(&job, MOST_PLACES)));
     calls
 }

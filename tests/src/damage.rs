@@ -51,27 +51,43 @@ fn empty(_: &mut Random, job: &mut Vec<u8>) {
     job.clear();
 }
 
-/// Gives a record a kind that there is not.
+/// Gives a record a kind that there is not, or that of repeaters.
 fn unknown_kind(random: &mut Random, job: &mut Vec<u8>) {
     let at = random.below(job.len() / RECORD) * RECORD;
     job[at] = random.pick(&[0, 5, 6, 8, 128, 255]);
+}
+
+/// Swaps the records at two positions.
+fn swap(job: &mut [u8], a: usize, b: usize) {
+    for i in 0..RECORD {
+        job.swap(a + i, b + i);
+    }
 }
 
 /// Swaps two records, of one kind or of two.
 fn swap_records(random: &mut Random, job: &mut Vec<u8>) {
     let count = job.len() / RECORD;
     let (a, b) = (random.below(count) * RECORD, random.below(count) * RECORD);
-    for i in 0..RECORD {
-        job.swap(a + i, b + i);
-    }
+    swap(job, a, b);
 }
 
 /// Swaps the first record with the last.
 fn swap_ends(_: &mut Random, job: &mut Vec<u8>) {
     let last = job.len() - RECORD;
-    for i in 0..RECORD {
-        job.swap(i, last + i);
+    swap(job, 0, last);
+}
+
+/// Swaps the last segment with a repeater, so that the kind falls.
+fn swap_with_repeater(random: &mut Random, job: &mut Vec<u8>) {
+    if let (Some(&segment), Some(repeater)) = (records(job, 4).last(), any_record(random, job, 5)) {
+        swap(job, segment, repeater);
     }
+}
+
+/// Gives the last record the kind behind that of repeaters.
+fn kind_6_last(_: &mut Random, job: &mut Vec<u8>) {
+    let last = job.len() - RECORD;
+    job[last] = 6;
 }
 
 /// Drops all records of a kind.
@@ -158,18 +174,41 @@ fn too_many(random: &mut Random, job: &mut Vec<u8>) {
     } else {
         records(job, kind)
     };
+    repeat_last(job, &found, most + 1);
+}
+
+/// Repeats the last of the records at these positions, numbered on, until there are so many.
+fn repeat_last(job: &mut Vec<u8>, found: &[usize], count: usize) {
     let Some(&last) = found.last() else { return };
     let copy = job[last..last + RECORD].to_vec();
-    for number in (found.len()..most + 1).rev() {
+    for number in (found.len()..count).rev() {
         let mut record = copy.clone();
         record[1] = number as u8;
         job.splice(last + RECORD..last + RECORD, record);
     }
 }
 
+/// Repeats the last repeater until there are nine.
+fn nine_repeaters(_: &mut Random, job: &mut Vec<u8>) {
+    let found = records(job, 5);
+    repeat_last(job, &found, 9);
+}
+
 /// Changes the number of a record.
 fn change_number(random: &mut Random, job: &mut Vec<u8>) {
     let at = random.below(job.len() / RECORD) * RECORD;
+    renumber(random, job, at);
+}
+
+/// Changes the number of a repeater.
+fn change_repeater_number(random: &mut Random, job: &mut Vec<u8>) {
+    if let Some(at) = any_record(random, job, 5) {
+        renumber(random, job, at);
+    }
+}
+
+/// Changes the number of the record at a position.
+fn renumber(random: &mut Random, job: &mut [u8], at: usize) {
     job[at + 1] = random.pick(&[job[at + 1].wrapping_add(1), job[at + 1].wrapping_sub(1), 0, 255]);
 }
 
@@ -187,13 +226,24 @@ fn drop_record(random: &mut Random, job: &mut Vec<u8>) {
     job.drain(at..at + RECORD);
 }
 
-/// Sets an unnamed byte of a record; a segment has none.
+/// Sets an unnamed byte of a width, a size or a stage; a segment has none.
 fn set_unnamed(random: &mut Random, job: &mut Vec<u8>) {
     let kind = random.between(1, 3) as u8;
+    set_unnamed_of(random, job, kind);
+}
+
+/// Sets an unnamed byte of a repeater.
+fn set_unnamed_of_repeater(random: &mut Random, job: &mut Vec<u8>) {
+    set_unnamed_of(random, job, 5);
+}
+
+/// Sets an unnamed byte of a record of a kind.
+fn set_unnamed_of(random: &mut Random, job: &mut [u8], kind: u8) {
     let unnamed: &[usize] = match kind {
         1 => &[3, 12, 13, 14, 15],
         2 => &[2, 3],
-        _ => &[4, 5, 6, 7, 8, 9, 10, 11, 12, 13, 14, 15],
+        3 => &[4, 5, 6, 7, 8, 9, 10, 11, 12, 13, 14, 15],
+        _ => &[5, 6, 7, 8, 9, 10, 11, 12, 13, 14, 15],
     };
     if let Some(at) = any_record(random, job, kind) {
         job[at + random.pick(unnamed)] = random.between(1, 255) as u8;
@@ -341,6 +391,73 @@ fn drop_last_sink(_: &mut Random, job: &mut Vec<u8>) {
     }
 }
 
+/// The position of a repeater: of the last one, so that the segments before it still rise up to it, or of any.
+fn a_repeater(random: &mut Random, job: &[u8]) -> Option<usize> {
+    let last = random.once_in(2);
+    let any = any_record(random, job, 5)?;
+    if last { records(job, 5).last().copied() } else { Some(any) }
+}
+
+/// Puts a repeater at a segment that there is not.
+fn missing_segment(random: &mut Random, job: &mut Vec<u8>) {
+    let count = records(job, 4).len() as u8;
+    if let Some(at) = a_repeater(random, job) {
+        job[at + 2] = random.pick(&[count, count, count.wrapping_add(1), 64, 255]);
+    }
+}
+
+/// Puts a repeater at a segment that has no branches.
+fn segment_without_branches(random: &mut Random, job: &mut Vec<u8>) {
+    let segments = records(job, 4);
+    let parents: Vec<u8> = segments.iter().map(|&at| job[at + 2]).collect();
+    let ends: Vec<u8> = (0..segments.len() as u8)
+        .filter(|end| !parents.contains(&(end + 1)))
+        .collect();
+    if let Some(at) = a_repeater(random, job)
+        && !ends.is_empty()
+    {
+        job[at + 2] = random.pick(&ends);
+    }
+}
+
+/// Hangs the branches of a repeater's segment on what the segment itself hangs on.
+fn move_branches(random: &mut Random, job: &mut Vec<u8>) {
+    let segments = records(job, 4);
+    if let Some(at) = any_record(random, job, 5)
+        && let Some(&site) = segments.get(usize::from(job[at + 2]))
+    {
+        let (parent, own) = (job[site + 2], job[at + 2].wrapping_add(1));
+        for segment in segments {
+            if job[segment + 2] == own {
+                job[segment + 2] = parent;
+            }
+        }
+    }
+}
+
+/// Puts a repeater at the segment of the one before it, or swaps the segments of the two.
+fn segments_not_rising(random: &mut Random, job: &mut Vec<u8>) {
+    let found = records(job, 5);
+    if found.len() < 2 {
+        return;
+    }
+    let pair = random.below(found.len() - 1);
+    let (first, second) = (found[pair] + 2, found[pair + 1] + 2);
+    if random.once_in(2) {
+        job[second] = job[first];
+    } else {
+        job.swap(first, second);
+    }
+}
+
+/// Damages the range of a repeater, by the count of sizes or of widths.
+fn bad_repeater_range(random: &mut Random, job: &mut Vec<u8>) {
+    let count = records(job, random.pick(&[2, 2, 2, 1])).len();
+    if let Some(at) = any_record(random, job, 5) {
+        bad_range(random, job, at, 3, count);
+    }
+}
+
 /// Changes one byte, whichever.
 fn any_byte(random: &mut Random, job: &mut Vec<u8>) {
     let at = random.below(job.len());
@@ -350,7 +467,10 @@ fn any_byte(random: &mut Random, job: &mut Vec<u8>) {
 /// The questions of a job in their order; 0 stands for any byte.
 const ORDER: [usize; 13] = [0, 1, 2, 24, 3, 4, 5, 6, 7, 8, 9, 10, 11];
 
-/// The damages meant for a question of a job; for 0 any byte.
+/// The same with those of repeaters behind them, which come more often.
+const ORDER_WITH_REPEATERS: [usize; 18] = [0, 1, 2, 24, 3, 4, 5, 6, 7, 8, 9, 10, 11, 22, 22, 22, 23, 23];
+
+/// The damages meant for a question of a job, those of repeaters left out; for 0 any byte.
 fn damages_for(question: usize) -> &'static [Damage] {
     match question {
         1 => &[cut_end, add_part, empty],
@@ -365,18 +485,46 @@ fn damages_for(question: usize) -> &'static [Damage] {
         9 => &[late_parent],
         10 => &[bad_sink_byte, length_beyond, sink_beyond, stray_sink, bad_segment_range],
         11 => &[drop_sink, drop_last_sink],
-        _ => &[any_byte],
+        0 => &[any_byte],
+        _ => &[],
     }
 }
 
-/// Damages a valid job once, twice or three times, so that the order of the questions shows too.
+/// The damages of repeaters meant for a question of a job.
+fn repeater_damages_for(question: usize) -> &'static [Damage] {
+    match question {
+        2 => &[kind_6_last, swap_with_repeater],
+        3 => &[nine_repeaters],
+        4 => &[change_repeater_number],
+        5 => &[set_unnamed_of_repeater],
+        22 => &[
+            missing_segment,
+            segment_without_branches,
+            segment_without_branches,
+            move_branches,
+            segments_not_rising,
+            segments_not_rising,
+        ],
+        23 => &[bad_repeater_range],
+        _ => &[],
+    }
+}
+
+/// Damages a valid job once, twice or three times, so that the order of the questions shows too. Where it has repeaters their
+/// damages are among them.
 pub fn damage(random: &mut Random, job: &mut Vec<u8>) {
+    let repeated = !records(job, 5).is_empty();
+    let order = if repeated { &ORDER_WITH_REPEATERS[..] } else { &ORDER };
     let times = random.pick(&[1, 1, 2, 2, 3]);
-    let mut questions: Vec<usize> = (0..times).map(|_| random.below(ORDER.len())).collect();
+    let mut questions: Vec<usize> = (0..times).map(|_| random.below(order.len())).collect();
     questions.sort_by(|a, b| b.cmp(a));
     for question in questions {
         if job.len() >= RECORD {
-            let kind = random.pick(damages_for(ORDER[question]));
+            let mut damages = damages_for(order[question]).to_vec();
+            if repeated {
+                damages.extend(repeater_damages_for(order[question]));
+            }
+            let kind = random.pick(&damages);
             kind(random, job);
         }
     }

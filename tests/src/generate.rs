@@ -1,6 +1,7 @@
 //! Generators of valid jobs, sizings, places and buffers.
 
-use crate::plan::{Plan, segment_with_sink, segment_without_sink};
+use crate::plan::{Plan, PlannedSegment, segment_with_sink, segment_without_sink};
+use crate::questions::{MOST_PLACES, MOST_UNREPEATED};
 use crate::random::Random;
 
 /// The shapes of a tree of segments.
@@ -15,6 +16,9 @@ pub enum Shape {
 
 /// All shapes.
 pub const SHAPES: [Shape; 5] = [Shape::Chain, Shape::Star, Shape::Binary, Shape::Comb, Shape::Any];
+
+/// The shapes in which some of many segments have branches.
+const BRANCHING: [Shape; 4] = [Shape::Chain, Shape::Binary, Shape::Comb, Shape::Any];
 
 /// The parent byte of a segment in a tree of a shape.
 pub fn parent_byte(random: &mut Random, shape: Shape, segment: usize) -> u8 {
@@ -119,9 +123,9 @@ fn plant(random: &mut Random, plan: &mut Plan, shape: Shape, count: usize, large
     }
 }
 
-/// A valid job's plan with a given number of segments and at most `most` allowed sizings.
-pub fn plan_of(random: &mut Random, segments: usize, most: u128) -> Plan {
-    let shape = random.pick(&SHAPES);
+/// A valid job's plan with a given number of segments and at most `most` allowed sizings, in one of these shapes.
+fn plan_in(random: &mut Random, shapes: &[Shape], segments: usize, most: u128) -> Plan {
+    let shape = random.pick(shapes);
     let large = random.once_in(4);
     let width_count = random.pick(&[1, 2, 2, 3, 3, 4, 4, 5, 8]);
     let size_count = random.pick(&[1, 2, 2, 3, 3, 4, 4, 6, 16]);
@@ -286,7 +290,7 @@ fn add_layer(random: &mut Random, plan: &mut Plan) {
 pub fn small_plan(random: &mut Random, most: u128) -> Plan {
     let segments = random.pick(&[1, 1, 2, 2, 3, 3, 4, 4, 5, 5, 6, 7, 9, 12]);
     let mut plan = match random.below(4) {
-        0 | 1 => plan_of(random, segments, most),
+        0 | 1 => plan_in(random, &SHAPES, segments, most),
         2 => pulling_plan(random, most),
         _ => nearly_tied_plan(random, most),
     };
@@ -301,13 +305,140 @@ pub fn small_plan(random: &mut Random, most: u128) -> Plan {
 pub fn large_plan(random: &mut Random) -> Plan {
     let segments = random.between(10, 64) as usize;
     let mut plan = if random.once_in(2) {
-        plan_of(random, segments, u128::MAX)
+        plan_in(random, &SHAPES, segments, u128::MAX)
     } else {
         geometric_plan(random, segments)
     };
     if random.once_in(2) {
         add_layer(random, &mut plan);
     }
+    plan
+}
+
+/// Puts repeaters at some of the segments that have branches, once in three times at as many as there can be; once in four times
+/// no sink behind one of them keeps a weight.
+fn add_repeaters(random: &mut Random, plan: &mut Plan) {
+    let mut sites = plan.sites();
+    let most = sites.len().min(8);
+    let count = if random.once_in(3) { most } else { random.below(most + 1) };
+    while sites.len() > count {
+        sites.remove(random.below(sites.len()));
+    }
+    for site in sites {
+        let [lowest, highest] = range(random, plan.sizes.len());
+        plan.repeaters.push([site, lowest, highest]);
+    }
+    if count > 0 && random.once_in(4) {
+        let [site, ..] = random.pick(&plan.repeaters);
+        clear_weights_below(plan, site);
+    }
+}
+
+/// Takes the weights of all sinks below a segment away; its own keeps its weight.
+fn clear_weights_below(plan: &mut Plan, segment: u8) {
+    let mut parents = vec![segment + 1];
+    for (number, below) in plan.segments.iter_mut().enumerate() {
+        if parents.contains(&below.parent) {
+            parents.push(number as u8 + 1);
+            below.weight = 0;
+        }
+    }
+}
+
+/// The resistance upstream of a repeater at which two of its sizes tie, if it is a whole one: `weights` are those of all sinks and
+/// of the sinks behind it, `load` is that of its branches.
+fn tying_upstream(sizes: [[u32; 3]; 2], weights: [u32; 2], load: u32) -> Option<u32> {
+    let [slower, faster] = sizes.map(|[resistance, _, output]| resistance * (output + load));
+    let gain = weights[1] * slower.checked_sub(faster)?;
+    let cost = weights[0] * (sizes[1][1] - sizes[0][1]);
+    gain.is_multiple_of(cost).then_some(gain / cost)
+}
+
+/// A plan of one stage, a segment with a sink and a repeater that ties between two sizes, and up to three branches behind it. The
+/// stage has a size of its own, before the two or behind them; every other time a repeater has it, behind another stage.
+fn tied_repeater_plan(random: &mut Random) -> Plan {
+    loop {
+        let mut sizes: Vec<[u32; 3]> = table(random, 2, 48)
+            .iter()
+            .map(|&[resistance, gate]| [resistance, gate + 1, random.between(0, 4)])
+            .collect();
+        let width = [random.between(1, 4), random.between(1, 4)];
+        let mut segments = vec![tied_segment(random, 0, 9, 0)];
+        segments.extend((0..random.between(1, 3)).map(|_| tied_segment(random, 1, 60, 1)));
+        let weight = |segments: &[PlannedSegment]| segments.iter().map(|segment| u32::from(segment.weight)).sum();
+        let load = segments[1..]
+            .iter()
+            .map(|segment| segment.length * width[1] + segment.capacitance)
+            .sum();
+        let upstream = tying_upstream([sizes[0], sizes[1]], [weight(&segments), weight(&segments[1..])], load);
+        let drive = upstream.and_then(|upstream| upstream.checked_sub(segments[0].length * width[0]));
+        let (own, first) = match drive {
+            Some(drive) if drive > sizes[0][0] => {
+                sizes.insert(0, [drive, 1, 2]);
+                (0, 1)
+            }
+            Some(drive) if (1..sizes[1][0]).contains(&drive) => {
+                sizes.push([drive, sizes[1][1] + 1, 3]);
+                (2, 0)
+            }
+            _ => continue,
+        };
+        let mut plan = Plan {
+            widths: vec![width],
+            sizes,
+            stages: vec![[own, own]],
+            segments,
+            repeaters: vec![[0, first, first + 1]],
+            ..Plan::default()
+        };
+        if random.once_in(2) {
+            put_in_front(random, &mut plan);
+        }
+        return plan;
+    }
+}
+
+/// A segment of one width with a sink of a capacitance up to `most` and a weight from `least` on.
+fn tied_segment(random: &mut Random, parent: u8, most: u32, least: u32) -> PlannedSegment {
+    let (length, capacitance) = (random.between(1, 3), random.between(0, most));
+    segment_with_sink(parent, length, capacitance, random.between(least, 3) as u8, [0, 0])
+}
+
+/// Puts a stage and a segment in front of a plan of one stage, which becomes a repeater: free, or of its own size alone.
+fn put_in_front(random: &mut Random, plan: &mut Plan) {
+    let [own, _] = plan.stages[0];
+    let last = plan.sizes.len() as u8 - 1;
+    plan.segments.iter_mut().for_each(|segment| segment.parent += 1);
+    plan.repeaters.iter_mut().for_each(|repeater| repeater[0] += 1);
+    plan.segments.insert(0, tied_segment(random, 0, 9, 0));
+    let [lowest, highest] = if random.once_in(2) { [own, own] } else { [0, last] };
+    plan.repeaters.insert(0, [0, lowest, highest]);
+    let size = random.pick(&[0, last]);
+    plan.stages[0] = [size, size];
+}
+
+/// A small valid job's plan with up to eight repeaters: of any kind, in a chain with room for eight, with drivers and widths that
+/// pull each other, each with one layer or two; or with a repeater that ties.
+pub fn repeater_plan(random: &mut Random, most: u128) -> Plan {
+    let segments = random.pick(&[2, 3, 3, 4, 4, 5, 5, 6, 7, 9, 12]);
+    let mut plan = match random.below(8) {
+        0..=3 => plan_in(random, &BRANCHING, segments, most),
+        4 => plan_in(random, &[Shape::Chain], segments.max(9), most),
+        5 | 6 => pulling_plan(random, most),
+        _ => return tied_repeater_plan(random),
+    };
+    if random.once_in(2) {
+        add_layer(random, &mut plan);
+    }
+    add_repeaters(random, &mut plan);
+    narrow(random, &mut plan, most);
+    plan
+}
+
+/// A valid job's plan of 10 to 64 segments with up to eight repeaters, whose ranges are not narrowed.
+pub fn large_repeater_plan(random: &mut Random) -> Plan {
+    let mut plan = large_plan(random);
+    add_repeaters(random, &mut plan);
     plan
 }
 
@@ -359,6 +490,20 @@ pub fn weightless_plan(random: &mut Random, stage_counts: &[u8], segment_counts:
     plan
 }
 
+/// A job without weights in a chain, with repeaters at its first segments; the counts are those of `weightless_plan`, and the
+/// repeaters'.
+pub fn weightless_repeaters(random: &mut Random, stage_counts: &[u8], segment_counts: &[u8], repeater_counts: &[u8]) -> Plan {
+    let mut plan = weightless_plan(random, stage_counts, segment_counts);
+    for (number, segment) in plan.segments.iter_mut().enumerate() {
+        segment.parent = number as u8;
+    }
+    plan.repeaters = (0..)
+        .zip(repeater_counts)
+        .map(|(site, count)| [site, 16 - count, 15])
+        .collect();
+    plan
+}
+
 /// A job without weights and with too much room to be searched.
 pub fn roomy_plan(random: &mut Random) -> Plan {
     let free = random.between(9, 14) as usize;
@@ -406,14 +551,21 @@ pub fn any_sizing(random: &mut Random, plan: &Plan) -> Vec<u8> {
     sizing
 }
 
-/// A place: mostly one of the P places, else at or behind the end.
-pub fn any_place(random: &mut Random, places: usize) -> usize {
+/// A place of a plan: mostly one of the P places, else at or behind the end; or at or behind the most that a plan without or with
+/// repeaters can have.
+pub fn any_place(random: &mut Random, plan: &Plan) -> usize {
+    let places = plan.places();
+    let most = if plan.repeaters.is_empty() {
+        MOST_UNREPEATED
+    } else {
+        MOST_PLACES
+    };
     let inside = random.below(places);
     let outside = [
         places,
         places + 1,
-        68,
-        69,
+        most,
+        most + 1,
         255,
         256,
         256 + inside,

@@ -1,5 +1,5 @@
-//! Jobs at and just beyond every limit, jobs with a capacitance or a weight where there is no sink, jobs of two layers, and jobs of
-//! the largest size and figures.
+//! Jobs at and just beyond every limit, jobs with a capacitance or a weight where there is no sink, jobs of two layers, jobs with
+//! repeaters, and jobs of the largest size and figures.
 
 use crate::generate::{SHAPES, Shape, parent_byte};
 use crate::plan::{Plan, segment_with_sink, segment_without_sink};
@@ -388,7 +388,9 @@ const LAYERS: [(&str, u64, Change); 45] = [
         job[16 * 3 + 2] = 2;
         job.push(0);
     }),
-    ("2 before 24: a kind", 2, |job| (job[0], job[16 * 3 + 2]) = (5, 2)),
+    ("2 before 24: the kind falls from 5", 2, |job| {
+        (job[0], job[16 * 3 + 2]) = (5, 2)
+    }),
     ("2 before 24: kinds that fall", 2, |job| {
         (job[16 * 8], job[16 * 9 + 15]) = (2, 2)
     }),
@@ -502,7 +504,225 @@ fn layer_limits() -> Vec<Limit> {
     limits
 }
 
-/// All jobs at and just beyond a limit, those with a capacitance or a weight where there is no sink, and those of two layers.
+/// The middle job with two more segments and two repeaters: segment 1 has the branch 2, segment 3 hangs beside it, and the
+/// repeaters sit at segments 0 and 1. Sizes are the records 2 and 3, stages 4 and 5, segments 6 to 9, repeaters 10 and 11.
+fn two_repeaters() -> Plan {
+    let mut plan = middle();
+    plan.segments.push(segment_with_sink(2, 40, 300, 2, [0, 1]));
+    plan.segments.push(segment_with_sink(1, 30, 200, 1, [0, 1]));
+    plan.repeaters = vec![[0, 0, 1], [1, 0, 1]];
+    plan
+}
+
+/// Questions 22 and 23 in each of their ways, and the other questions where repeaters change them: what is changed in the job with
+/// two repeaters, and its number then.
+const REPEATERS: [(&str, u64, Change); 49] = [
+    ("nothing", 0, |_| ()),
+    ("no repeater", 0, |job| job.truncate(16 * 10)),
+    ("one repeater", 0, |job| job.truncate(16 * 11)),
+    ("one repeater, at segment 1", 0, |job| {
+        drop(job.drain(16 * 10..16 * 11));
+        job[16 * 10 + 1] = 0;
+    }),
+    ("one index", 0, |job| job[16 * 10 + 4] = 0),
+    ("the highest index alone", 0, |job| job[16 * 11 + 3] = 1),
+    ("2: kind 6 last", 2, |job| job[16 * 11] = 6),
+    ("2: kind 6 behind the repeaters", 2, |job| job.extend([6; 16])),
+    ("2: kind 255 last", 2, |job| job[16 * 11] = 255),
+    ("2: kind 0 last", 2, |job| job[16 * 11] = 0),
+    ("2 before 24: kind 6", 2, |job| (job[16 * 11], job[16 + 2]) = (6, 2)),
+    ("2: the kind falls from 5 to 4 at the last record", 2, |job| job[16 * 11] = 4),
+    ("2: the kind falls from 5 to 4 at the last segment", 2, |job| job[16 * 8] = 5),
+    ("2: the kind falls from 5 to 1", 2, |job| job[0] = 5),
+    ("3: repeaters alone", 3, |job| drop(job.drain(..16 * 10))),
+    ("3: repeaters in place of segments", 3, |job| drop(job.drain(16 * 6..16 * 10))),
+    ("4: both have number 0", 4, |job| job[16 * 11 + 1] = 0),
+    ("4: they count from 1", 4, |job| (job[16 * 10 + 1], job[16 * 11 + 1]) = (1, 2)),
+    ("4: they count on from the segments", 4, |job| {
+        (job[16 * 10 + 1], job[16 * 11 + 1]) = (4, 5)
+    }),
+    ("4: number 255", 4, |job| job[16 * 11 + 1] = 255),
+    ("22: the segment is the count", 22, |job| job[16 * 11 + 2] = 4),
+    ("22: the segment is one more", 22, |job| job[16 * 11 + 2] = 5),
+    ("22: segment 63", 22, |job| job[16 * 11 + 2] = 63),
+    ("22: segment 64", 22, |job| job[16 * 11 + 2] = 64),
+    ("22: segment 255", 22, |job| job[16 * 11 + 2] = 255),
+    ("22: both segments missing", 22, |job| {
+        (job[16 * 10 + 2], job[16 * 11 + 2]) = (4, 5)
+    }),
+    ("22: the one segment is missing", 22, |job| {
+        job.truncate(16 * 11);
+        job[16 * 10 + 2] = 4;
+    }),
+    ("22: a segment without branches", 22, |job| job[16 * 11 + 2] = 2),
+    ("22: the last segment", 22, |job| job[16 * 11 + 2] = 3),
+    ("22: the first has no branches", 22, |job| {
+        (job[16 * 10 + 2], job[16 * 11 + 2]) = (2, 3)
+    }),
+    ("22: the branch hangs beside", 22, |job| job[16 * 8 + 2] = 1),
+    ("22: both at segment 0", 22, |job| job[16 * 11 + 2] = 0),
+    ("22: both at segment 1", 22, |job| job[16 * 10 + 2] = 1),
+    ("22: the segments fall", 22, |job| {
+        (job[16 * 10 + 2], job[16 * 11 + 2]) = (1, 0)
+    }),
+    ("22: the first is missing", 22, |job| job[16 * 10 + 2] = 4),
+    ("22: missing and without branches", 22, |job| {
+        (job[16 * 10 + 2], job[16 * 11 + 2]) = (3, 4)
+    }),
+    ("22 before 23: missing and empty", 22, |job| {
+        (job[16 * 10 + 3], job[16 * 10 + 4], job[16 * 11 + 2]) = (1, 0, 4)
+    }),
+    ("22 before 23: no branches and beyond", 22, |job| {
+        (job[16 * 10 + 4], job[16 * 11 + 2]) = (2, 2)
+    }),
+    ("22 before 23: equal and beyond", 22, |job| {
+        (job[16 * 10 + 4], job[16 * 11 + 2]) = (2, 0)
+    }),
+    ("22 before 23: in one record", 22, |job| {
+        (job[16 * 11 + 2], job[16 * 11 + 4]) = (4, 2)
+    }),
+    ("23: the first range is empty", 23, |job| {
+        (job[16 * 10 + 3], job[16 * 10 + 4]) = (1, 0)
+    }),
+    ("23: the last range is empty", 23, |job| {
+        (job[16 * 11 + 3], job[16 * 11 + 4]) = (1, 0)
+    }),
+    ("23: lowest 255", 23, |job| job[16 * 11 + 3] = 255),
+    ("23: the first is beyond by one", 23, |job| job[16 * 10 + 4] = 2),
+    ("23: the last is beyond by one", 23, |job| job[16 * 11 + 4] = 2),
+    ("23: highest 255", 23, |job| job[16 * 11 + 4] = 255),
+    ("23: highest 16", 23, |job| job[16 * 11 + 4] = 16),
+    ("23: one index, beyond", 23, |job| {
+        (job[16 * 11 + 3], job[16 * 11 + 4]) = (2, 2)
+    }),
+    ("23: empty and beyond", 23, |job| {
+        (job[16 * 11 + 3], job[16 * 11 + 4]) = (3, 2)
+    }),
+];
+
+/// What may be wrong with the repeaters of such a job, and its number then.
+const REPEATER_FAULTS: [(u64, Change); 7] = [
+    (22, |job| job[16 * 11 + 2] = 4),
+    (22, |job| job[16 * 11 + 2] = 2),
+    (22, |job| job[16 * 11 + 2] = 0),
+    (22, |job| (job[16 * 10 + 2], job[16 * 11 + 2]) = (1, 0)),
+    (23, |job| (job[16 * 11 + 3], job[16 * 11 + 4]) = (1, 0)),
+    (23, |job| job[16 * 11 + 4] = 2),
+    (22, |job| (job[16 * 10 + 4], job[16 * 11 + 2]) = (2, 4)),
+];
+
+/// What may be wrong with it besides, and its number then: each of the questions before 22.
+const BEFORE_22: [(u64, Change); 22] = [
+    (1, |job| job.push(0)),
+    (1, |job| job.truncate(16 * 12 - 1)),
+    (2, |job| job[0] = 6),
+    (2, |job| job[16 * 10] = 6),
+    (2, |job| job[16 * 8] = 5),
+    (24, |job| job[16 + 2] = 2),
+    (24, |job| job[16 * 9 + 15] = 1),
+    (3, |job| drop(job.drain(16 * 4..16 * 6))),
+    (3, |job| (2..9).for_each(|number| job.extend(repeater(number, 1)))),
+    (4, |job| job[16 + 1] = 0),
+    (4, |job| job[16 * 10 + 1] = 1),
+    (5, |job| job[3] = 1),
+    (5, |job| job[16 * 10 + 5] = 1),
+    (5, |job| job[16 * 11 + 15] = 255),
+    (6, |job| job[4] = 0),
+    (6, |job| job[16 * 3 + 14] = 2),
+    (7, |job| job[16 + 4] = 40),
+    (8, |job| job[16 * 5 + 3] = 2),
+    (9, |job| job[16 * 9 + 2] = 4),
+    (10, |job| job[16 * 9 + 14] = 2),
+    (10, |job| job[16 * 6 + 12] = 1),
+    (11, |job| (job[16 * 9 + 3], job[16 * 9 + 8], job[16 * 9 + 12]) = (0, 0, 0)),
+];
+
+/// The record of a repeater with a number, at a segment, of size 0.
+fn repeater(number: u8, segment: u8) -> [u8; 16] {
+    let mut record = [0; 16];
+    record[..3].copy_from_slice(&[5, number, segment]);
+    record
+}
+
+/// Jobs that fail nothing but 22 or 23: 22 in each of its ways, 23 in both, and both numbers at once.
+pub fn repeater_faults() -> Vec<Limit> {
+    let faults = REPEATER_FAULTS.into_iter().enumerate();
+    faults
+        .map(|(fault, (number, change))| {
+            let mut job = two_repeaters().bytes();
+            change(&mut job);
+            Limit {
+                name: format!("fault {fault} of repeaters"),
+                job,
+                number,
+            }
+        })
+        .collect()
+}
+
+/// A chain of segments with repeaters at its first ones.
+fn chain_with_repeaters(segments: u8, repeaters: u8) -> Plan {
+    let mut plan = counted(2, 3, 2, 0);
+    plan.segments = (0..segments).map(|i| segment_with_sink(i, 1, 1, 1, [0, 1])).collect();
+    plan.repeaters = (0..repeaters).map(|site| [site, 0, 2]).collect();
+    plan
+}
+
+/// Jobs with repeaters: changed in one field, with another question's fault beside theirs, each unnamed byte, counts at the limits
+/// and beyond them, and tables of sizes longer and shorter than that of the widths.
+pub fn repeater_limits() -> Vec<Limit> {
+    let mut limits = repeater_faults();
+    let mut push = |name: String, job: Vec<u8>, number: u64| limits.push(Limit { name, job, number });
+    for (name, number, change) in REPEATERS {
+        let mut job = two_repeaters().bytes();
+        change(&mut job);
+        push(format!("two repeaters: {name}"), job, number);
+    }
+    for (case, (number, before)) in BEFORE_22.into_iter().enumerate() {
+        let mut beside = two_repeaters().bytes();
+        before(&mut beside);
+        push(format!("two repeaters and case {case}"), beside, number);
+        for fault in repeater_faults() {
+            let mut job = fault.job;
+            before(&mut job);
+            push(format!("{} and case {case}", fault.name), job, number);
+        }
+    }
+    for (record, at, value) in [10, 11]
+        .into_iter()
+        .flat_map(|record| (5..16).map(move |at| (record, at, 1 << (at % 8))))
+    {
+        let mut job = two_repeaters().bytes();
+        job[16 * record + at] = value;
+        push(format!("repeater record {record} byte {at} is {value}"), job, 5);
+    }
+    for (count, number) in [(0, 0), (1, 0), (7, 0), (8, 0), (9, 3), (10, 3), (63, 3)] {
+        push(format!("{count} repeaters"), chain_with_repeaters(64, count).bytes(), number);
+    }
+    let mut many = chain_with_repeaters(64, 1).bytes();
+    (1..=255).for_each(|number| many.extend(repeater(number, 0)));
+    push("256 repeaters".into(), many, 3);
+    // the last segment of 64 has no branches, and every one before it has one
+    for (site, number) in [(62, 0), (63, 22), (64, 22)] {
+        let mut plan = chain_with_repeaters(64, 1);
+        plan.repeaters[0][0] = site;
+        push(format!("a repeater at segment {site} of 64"), plan.bytes(), number);
+    }
+    for (widths, sizes, highest, number) in [(8, 2, 1, 0), (8, 2, 2, 23), (8, 2, 7, 23), (2, 16, 15, 0), (2, 16, 16, 23)] {
+        let mut plan = counted(widths, sizes, 1, 0);
+        plan.segments = chain_with_repeaters(2, 0).segments;
+        plan.repeaters = vec![[0, 0, highest]];
+        push(
+            format!("{widths} widths, {sizes} sizes, a repeater's highest index {highest}"),
+            plan.bytes(),
+            number,
+        );
+    }
+    limits
+}
+
+/// All jobs at and just beyond a limit, those with a capacitance or a weight where there is no sink, and those of two layers; none
+/// has repeaters.
 pub fn limits() -> Vec<Limit> {
     let mut all = field_limits();
     all.extend(count_limits());
@@ -520,15 +740,21 @@ pub enum Freedom {
     All,
 }
 
+impl Freedom {
+    /// The range of a place that has so many indices.
+    fn range(self, count: u8) -> [u8; 2] {
+        match self {
+            Freedom::Lowest => [0, 0],
+            Freedom::Highest => [count - 1, count - 1],
+            Freedom::All => [0, count - 1],
+        }
+    }
+}
+
 /// A job of 68 places with the largest figures that keep their order, in a shape, with a weight for every sink. The tables are
 /// full; a second layer has every other segment.
 pub fn largest_plan(random: &mut Random, shape: Shape, weight: u8, freedom: Freedom, layers: usize) -> Plan {
-    let range = |count: u8| match freedom {
-        Freedom::Lowest => [0, 0],
-        Freedom::Highest => [count - 1, count - 1],
-        Freedom::All => [0, count - 1],
-    };
-    let stage = range(16);
+    let stage = freedom.range(16);
     let thick = if layers == 2 { 8 } else { 0 };
     let mut plan = Plan {
         widths: (0..8).map(|i| [100 - i, 93 + i]).collect(),
@@ -539,14 +765,35 @@ pub fn largest_plan(random: &mut Random, shape: Shape, weight: u8, freedom: Free
     };
     for segment in 0..64 {
         let parent = parent_byte(random, shape, segment);
-        let mut planned = segment_with_sink(parent, 1_000, 100_000, weight, range(8));
+        let mut planned = segment_with_sink(parent, 1_000, 100_000, weight, freedom.range(8));
         planned.layer = (segment % layers) as u8;
         plan.segments.push(planned);
     }
     plan
 }
 
-/// All largest jobs: one layer and two, every shape, weights 0, 1 and 255, every freedom.
+/// Where the eight repeaters of a largest job sit: at the first segments that have branches, at the last, or spread over all.
+#[derive(Clone, Copy, Debug)]
+enum Spread {
+    First,
+    Last,
+    Even,
+}
+
+/// Puts eight repeaters into a plan.
+fn put_eight(plan: &mut Plan, spread: Spread, freedom: Freedom) {
+    let sites = plan.sites();
+    let [lowest, highest] = freedom.range(16);
+    let at = |i: usize| match spread {
+        Spread::First => i,
+        Spread::Last => sites.len() - 8 + i,
+        Spread::Even => i * sites.len() / 8,
+    };
+    plan.repeaters = (0..8).map(|i| [sites[at(i)], lowest, highest]).collect();
+}
+
+/// All largest jobs: without repeaters and then with eight; one layer and two, every shape in which eight can sit, weights 0, 1
+/// and 255, every freedom.
 pub fn largest_plans() -> Vec<(String, Plan)> {
     let mut random = Random::new(11);
     let mut plans = Vec::new();
@@ -554,9 +801,19 @@ pub fn largest_plans() -> Vec<(String, Plan)> {
         for weight in [0, 1, 255] {
             for freedom in [Freedom::Lowest, Freedom::Highest, Freedom::All] {
                 let name = format!("{layers} layers {shape:?} weight {weight} {freedom:?}");
-                plans.push((name, largest_plan(&mut random, shape, weight, freedom, layers)));
+                let plan = largest_plan(&mut random, shape, weight, freedom, layers);
+                plans.push((name, freedom, plan));
             }
         }
     }
-    plans
+    let mut with_repeaters = Vec::new();
+    for (name, freedom, plan) in plans.iter().filter(|(_, _, plan)| plan.sites().len() >= 8) {
+        for spread in [Spread::First, Spread::Last, Spread::Even] {
+            let mut plan = plan.clone();
+            put_eight(&mut plan, spread, *freedom);
+            with_repeaters.push((format!("{name} repeaters {spread:?}"), plan));
+        }
+    }
+    let without = plans.into_iter().map(|(name, _, plan)| (name, plan));
+    without.chain(with_repeaters).collect()
 }

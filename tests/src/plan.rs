@@ -16,7 +16,7 @@ pub struct PlannedSegment {
 }
 
 /// A job's fields: widths of layer 0 and, called thick, of layer 1 as resistance and capacitance, sizes as resistance, gate and
-/// output, stages as lowest and highest.
+/// output, stages as lowest and highest, repeaters as segment, lowest and highest.
 #[derive(Clone, Debug, Default)]
 pub struct Plan {
     pub widths: Vec<[u32; 2]>,
@@ -24,18 +24,20 @@ pub struct Plan {
     pub sizes: Vec<[u32; 3]>,
     pub stages: Vec<[u8; 2]>,
     pub segments: Vec<PlannedSegment>,
+    pub repeaters: Vec<[u8; 3]>,
 }
 
 impl Plan {
     /// The number of places.
     pub fn places(&self) -> usize {
-        self.stages.len() + self.segments.len()
+        self.stages.len() + self.segments.len() + self.repeaters.len()
     }
 
     /// The lowest and the highest index of each place.
     pub fn ranges(&self) -> Vec<[u8; 2]> {
         let segments = self.segments.iter().map(|segment| [segment.lowest, segment.highest]);
-        self.stages.iter().copied().chain(segments).collect()
+        let repeaters = self.repeaters.iter().map(|&[_, lowest, highest]| [lowest, highest]);
+        self.stages.iter().copied().chain(segments).chain(repeaters).collect()
     }
 
     /// How many sizings the ranges allow.
@@ -45,10 +47,22 @@ impl Plan {
 
     /// Sets the range of a place.
     pub fn set_range(&mut self, place: usize, range: [u8; 2]) {
-        match place.checked_sub(self.stages.len()) {
-            None => self.stages[place] = range,
-            Some(segment) => [self.segments[segment].lowest, self.segments[segment].highest] = range,
+        let (stages, before_repeaters) = (self.stages.len(), self.stages.len() + self.segments.len());
+        if place < stages {
+            self.stages[place] = range;
+        } else if place < before_repeaters {
+            let segment = &mut self.segments[place - stages];
+            [segment.lowest, segment.highest] = range;
+        } else {
+            self.repeaters[place - before_repeaters][1..].copy_from_slice(&range);
         }
+    }
+
+    /// The numbers of the segments that have branches, in rising order: where a repeater can sit.
+    pub fn sites(&self) -> Vec<u8> {
+        (0..self.segments.len() as u8)
+            .filter(|&number| self.segments.iter().any(|segment| segment.parent == number + 1))
+            .collect()
     }
 
     /// The job's bytes, with the numbers counted from 0 in each kind, those of widths in each layer.
@@ -71,6 +85,9 @@ impl Plan {
                 [4, i as u8, segment.parent, segment.sink],
                 [segment.length, segment.capacitance, last],
             ));
+        }
+        for (i, &[segment, lowest, highest]) in self.repeaters.iter().enumerate() {
+            job.extend(record([5, i as u8, segment, lowest], [highest.into(), 0, 0]));
         }
         job
     }

@@ -1,7 +1,11 @@
-//! Questions 1 to 11 and 24 of a job, asked one after the other, and the net that a job describes.
+//! Questions 1 to 11 and 22 to 24 of a job, asked one after the other, and the net that a job describes.
 
 /// The bytes of one record.
 pub const RECORD: usize = 16;
+
+/// The most places that a job without repeaters can have, and that any job can have.
+pub const MOST_UNREPEATED: usize = 4 + 64;
+pub const MOST_PLACES: usize = MOST_UNREPEATED + 8;
 
 /// A row of the table of a layer's widths, for each unit of length.
 pub struct Width {
@@ -37,17 +41,22 @@ pub struct Range {
     pub highest: u8,
 }
 
-/// What a job describes; `widths` has the table of each layer, `ranges` one entry for each place, stages first.
+/// What a job describes; `widths` has the table of each layer, `ranges` one entry for each place: stages, segments, repeaters.
 pub struct Net {
     pub widths: [Vec<Width>; 2],
     pub sizes: Vec<Size>,
     pub stages: usize,
     pub segments: Vec<Segment>,
+    /// For each repeater, the segment at whose far end it sits; for each segment, the repeater there.
+    pub sites: Vec<usize>,
+    pub repeaters: Vec<Option<usize>>,
     pub ranges: Vec<Range>,
     /// For each segment, the segments from itself up to the source.
     pub paths: Vec<Vec<usize>>,
-    /// Whether the path of the first segment to the source passes through the second.
-    pub passes: Vec<Vec<bool>>,
+    /// For each segment, the repeater that drives it, the nearest above it; none where the last stage does.
+    pub drivers: Vec<Option<usize>>,
+    /// For each segment, itself and those below it that its own driver drives.
+    pub seen: Vec<Vec<usize>>,
 }
 
 impl Net {
@@ -64,6 +73,11 @@ impl Net {
     /// The sizing with the highest allowed index at each place.
     pub fn highest(&self) -> Vec<u8> {
         self.ranges.iter().map(|range| range.highest).collect()
+    }
+
+    /// The place of a repeater: behind the stages and the segments.
+    pub fn repeater_place(&self, repeater: usize) -> usize {
+        self.stages + self.segments.len() + repeater
     }
 
     /// How many sizings are allowed.
@@ -92,10 +106,10 @@ fn question_1(job: &[u8]) -> bool {
     !job.is_empty() && job.len().is_multiple_of(RECORD)
 }
 
-/// Question 2: is every kind 1 to 4, never falling?
+/// Question 2: is every kind 1 to 5, never falling?
 fn question_2(job: &[u8]) -> bool {
     let kinds: Vec<u8> = job.chunks(RECORD).map(|record| record[0]).collect();
-    kinds.iter().all(|kind| (1..=4).contains(kind)) && kinds.windows(2).all(|pair| pair[0] <= pair[1])
+    kinds.iter().all(|kind| (1..=5).contains(kind)) && kinds.windows(2).all(|pair| pair[0] <= pair[1])
 }
 
 /// The width records of one layer, which byte 2 names, in their order.
@@ -121,10 +135,12 @@ fn question_24(job: &[u8]) -> bool {
     layer_faults(job) == [false; 4]
 }
 
-/// Question 3: is each kind's count in its range, of widths up to eight in each layer and at least one in layer 0?
+/// Question 3: is each kind's count in its range, of widths up to eight in each layer and at least one in layer 0, of repeaters
+/// up to eight?
 fn question_3(job: &[u8]) -> bool {
     (1..=8).contains(&of_layer(job, 0).len())
         && of_layer(job, 1).len() <= 8
+        && of_kind(job, 5).len() <= 8
         && [(2, 16), (3, 4), (4, 64)]
             .iter()
             .all(|&(kind, most)| (1..=most).contains(&of_kind(job, kind).len()))
@@ -133,7 +149,7 @@ fn question_3(job: &[u8]) -> bool {
 /// The lists of records that are numbered from 0: the widths of each layer, and each other kind.
 fn numbered(job: &[u8]) -> Vec<Vec<&[u8]>> {
     let layers = (0..=1).map(|layer| of_layer(job, layer));
-    layers.chain((2..=4).map(|kind| of_kind(job, kind))).collect()
+    layers.chain((2..=5).map(|kind| of_kind(job, kind))).collect()
 }
 
 /// Question 4: do numbers count from 0 in each kind, those of widths in each layer?
@@ -148,6 +164,7 @@ fn named_bytes(kind: u8) -> &'static [usize] {
         1 => &[0, 1, 2, 4, 5, 6, 7, 8, 9, 10, 11],
         2 => &[0, 1, 4, 5, 6, 7, 8, 9, 10, 11, 12, 13, 14, 15],
         3 => &[0, 1, 2, 3],
+        5 => &[0, 1, 2, 3, 4],
         _ => &[0, 1, 2, 3, 4, 5, 6, 7, 8, 9, 10, 11, 12, 13, 14, 15],
     }
 }
@@ -210,15 +227,50 @@ fn question_10(job: &[u8]) -> bool {
     })
 }
 
+/// Whether a segment hangs on the one that has a number.
+fn has_branches(job: &[u8], number: u8) -> bool {
+    of_kind(job, 4)
+        .iter()
+        .any(|segment| usize::from(segment[2]) == usize::from(number) + 1)
+}
+
 /// Question 11: has every segment without branches a sink?
 fn question_11(job: &[u8]) -> bool {
-    let segments = of_kind(job, 4);
-    let has_branch = |segment: &[u8]| {
-        segments
-            .iter()
-            .any(|other| usize::from(other[2]) == usize::from(segment[1]) + 1)
-    };
-    segments.iter().all(|segment| has_branch(segment) || segment[3] == 1)
+    of_kind(job, 4)
+        .iter()
+        .all(|segment| has_branches(job, segment[1]) || segment[3] == 1)
+}
+
+/// The ways in which a job fails question 22: a repeater's segment is missing, it is there and has no branches, or from a
+/// repeater to the next the segment number stays or falls.
+pub fn site_faults(job: &[u8]) -> [bool; 4] {
+    let sites: Vec<u8> = of_kind(job, 5).iter().map(|record| record[2]).collect();
+    let is_there = |site: u8| usize::from(site) < of_kind(job, 4).len();
+    [
+        sites.iter().any(|&site| !is_there(site)),
+        sites.iter().any(|&site| is_there(site) && !has_branches(job, site)),
+        sites.windows(2).any(|pair| pair[0] == pair[1]),
+        sites.windows(2).any(|pair| pair[0] > pair[1]),
+    ]
+}
+
+/// Question 22: is there none of these?
+fn question_22(job: &[u8]) -> bool {
+    site_faults(job) == [false; 4]
+}
+
+/// The ways in which a job fails question 23: a repeater's index range is empty, or its highest index is beyond the table of sizes.
+pub fn range_faults(job: &[u8]) -> [bool; 2] {
+    let (repeaters, sizes) = (of_kind(job, 5), of_kind(job, 2).len());
+    [
+        repeaters.iter().any(|record| record[3] > record[4]),
+        repeaters.iter().any(|record| usize::from(record[4]) >= sizes),
+    ]
+}
+
+/// Question 23: is there none of these?
+fn question_23(job: &[u8]) -> bool {
+    range_faults(job) == [false; 2]
 }
 
 /// Whether a capacitance or a weight stands at a segment whose sink byte is 0, in a job that passes 1, 2, 24, 3 and 4 and has its
@@ -252,9 +304,9 @@ pub fn fails_in_layer_1(job: &[u8], number: u64) -> bool {
 /// A question of a job, and whether its answer is yes.
 type Question = fn(&[u8]) -> bool;
 
-/// The number of the first question of a job whose answer is no, or 0: 24 is asked after 2 and before 3.
+/// The number of the first question of a job whose answer is no, or 0: 24 is asked after 2 and before 3, 22 and 23 after 11.
 pub fn first_no(job: &[u8]) -> u64 {
-    let questions: [(u64, Question); 12] = [
+    let questions: [(u64, Question); 14] = [
         (1, question_1),
         (2, question_2),
         (24, question_24),
@@ -267,6 +319,8 @@ pub fn first_no(job: &[u8]) -> u64 {
         (9, question_9),
         (10, question_10),
         (11, question_11),
+        (22, question_22),
+        (23, question_23),
     ];
     let failed = questions.iter().find(|(_, question)| !question(job));
     failed.map_or(0, |&(number, _)| number)
@@ -297,6 +351,17 @@ fn path_to_source(segments: &[Segment], segment: usize) -> Vec<usize> {
     path
 }
 
+/// The range of each place: of stages, segments and repeaters the byte of the lowest index, with that of the highest behind it.
+fn place_ranges(job: &[u8]) -> Vec<Range> {
+    let ranges = |(kind, lowest): (u8, usize)| {
+        of_kind(job, kind).into_iter().map(move |record| Range {
+            lowest: record[lowest],
+            highest: record[lowest + 1],
+        })
+    };
+    [(3, 2), (4, 13), (5, 3)].into_iter().flat_map(ranges).collect()
+}
+
 /// The net of a job, or the number of the first question that it fails.
 pub fn read(job: &[u8]) -> Result<Net, u64> {
     let refusal = first_no(job);
@@ -312,32 +377,32 @@ pub fn read(job: &[u8]) -> Result<Net, u64> {
         gate: number(record, 8),
         output: number(record, 12),
     };
-    let stage_range = |record: &&[u8]| Range {
-        lowest: record[2],
-        highest: record[3],
-    };
-    let segment_range = |record: &&[u8]| Range {
-        lowest: record[13],
-        highest: record[14],
-    };
     let segments: Vec<Segment> = of_kind(job, 4).into_iter().map(read_segment).collect();
+    let sites: Vec<usize> = of_kind(job, 5).iter().map(|record| usize::from(record[2])).collect();
     let count = segments.len();
     let paths: Vec<Vec<usize>> = (0..count).map(|s| path_to_source(&segments, s)).collect();
-    let passes = (0..count)
-        .map(|s| (0..count).map(|through| paths[s].contains(&through)).collect())
-        .collect();
-    let ranges = of_kind(job, 3)
+    let repeaters: Vec<Option<usize>> = (0..count).map(|s| sites.iter().position(|&site| site == s)).collect();
+    let drivers: Vec<Option<usize>> = paths
         .iter()
-        .map(stage_range)
-        .chain(of_kind(job, 4).iter().map(segment_range))
+        .map(|path| path[1..].iter().find_map(|&s| repeaters[s]))
+        .collect();
+    let seen = (0..count)
+        .map(|from| {
+            (0..count)
+                .filter(|&s| paths[s].contains(&from) && drivers[s] == drivers[from])
+                .collect()
+        })
         .collect();
     Ok(Net {
         widths: [0, 1].map(|layer| of_layer(job, layer).iter().map(width).collect()),
         sizes: of_kind(job, 2).iter().map(size).collect(),
         stages: of_kind(job, 3).len(),
         segments,
-        ranges,
+        sites,
+        repeaters,
+        ranges: place_ranges(job),
         paths,
-        passes,
+        drivers,
+        seen,
     })
 }

@@ -1,6 +1,7 @@
-//! The independent search: every operation from its definition, by walking each sink's path and trying every sizing.
+//! The independent search: every operation from its definition, by walking each sink's path, through the repeaters on it, and
+//! trying every sizing.
 
-use crate::questions::{Net, product, read};
+use crate::questions::{Net, Size, product, read};
 
 /// The largest room that is searched.
 pub const MOST_ROOM: u128 = 65_536;
@@ -70,12 +71,19 @@ pub const EXHAUSTIVE: Way = Way {
     least: exhaustive_least,
 };
 
-/// The electrical figures of the wires under one sizing.
-struct Wires {
+/// The electrical figures of the tree under one sizing: each segment's wire and the load under it, and what the last stage and
+/// each repeater drives.
+struct Tree {
     resistance: Vec<u128>,
     capacitance: Vec<u128>,
     under: Vec<u128>,
-    whole_tree: u128,
+    driven_by_stages: u128,
+    driven_by_repeater: Vec<u128>,
+}
+
+/// The driver size that a sizing has at a stage's or a repeater's place.
+fn size_at<'a>(net: &'a Net, sizing: &[u8], place: usize) -> &'a Size {
+    &net.sizes[usize::from(sizing[place])]
 }
 
 /// The capacitance of the sink at the far end of a segment, 0 where there is none.
@@ -86,22 +94,15 @@ fn sink_capacitance(net: &Net, segment: usize) -> u128 {
         .map_or(0, |sink| u128::from(sink.capacitance))
 }
 
-/// Everything strictly under a segment: each other wire and each sink whose path to the source passes through it.
-fn load_under(net: &Net, capacitance: &[u128], segment: usize) -> u128 {
-    let mut load = 0;
-    for (other, wire) in capacitance.iter().enumerate() {
-        if net.passes[other][segment] {
-            load += sink_capacitance(net, other);
-            if other != segment {
-                load += wire;
-            }
-        }
-    }
-    load
+/// What hangs at the far end of a segment: its sink, and the gate of the repeater there.
+fn hanging_at(net: &Net, sizing: &[u8], segment: usize) -> u128 {
+    let gate = |repeater: usize| size_at(net, sizing, net.repeater_place(repeater)).gate;
+    sink_capacitance(net, segment) + u128::from(net.repeaters[segment].map_or(0, gate))
 }
 
-/// Resistance, capacitance and load under each segment, and the load of the whole tree, for one sizing.
-fn wires(net: &Net, sizing: &[u8]) -> Wires {
+/// The tree under one sizing. Repeaters cut it into parts, each with its driver: the load under a segment is of the segment's own
+/// part, in which a repeater at its end shows its gate, and what a driver drives is its whole part.
+fn tree(net: &Net, sizing: &[u8]) -> Tree {
     let count = net.segments.len();
     let row = |segment: usize| &net.widths[net.segments[segment].layer][usize::from(sizing[net.stages + segment])];
     let resistance: Vec<u128> = (0..count)
@@ -110,58 +111,81 @@ fn wires(net: &Net, sizing: &[u8]) -> Wires {
     let capacitance: Vec<u128> = (0..count)
         .map(|s| u128::from(row(s).capacitance * net.segments[s].length))
         .collect();
-    let under = (0..count).map(|s| load_under(net, &capacitance, s)).collect();
-    let whole_tree = (0..count).map(|s| capacitance[s] + sink_capacitance(net, s)).sum();
-    Wires {
+    let load: Vec<u128> = (0..count).map(|s| capacitance[s] + hanging_at(net, sizing, s)).collect();
+    let driven = |driver: Option<usize>| (0..count).filter(|&s| net.drivers[s] == driver).map(|s| load[s]).sum();
+    let seen = |from: usize| net.seen[from].iter().map(|&s| load[s]).sum::<u128>();
+    Tree {
+        under: (0..count).map(|s| seen(s) - capacitance[s]).collect(),
+        driven_by_stages: driven(None),
+        driven_by_repeater: (0..net.sites.len()).map(|r| driven(Some(r))).collect(),
         resistance,
         capacitance,
-        under,
-        whole_tree,
     }
 }
 
-/// The delay of the chain of stages: each drives its own output and the next gate, the last drives the tree.
-fn stages_delay(net: &Net, sizing: &[u8], whole_tree: u128) -> u128 {
-    let size = |stage: usize| &net.sizes[usize::from(sizing[stage])];
-    let mut delay = 0;
-    for stage in 0..net.stages {
-        let driven = if stage + 1 < net.stages {
-            u128::from(size(stage + 1).gate)
+/// What a driver adds to the delay: its resistance times its own output and what it drives.
+fn driver_delay(size: &Size, driven: u128) -> u128 {
+    u128::from(size.resistance) * (u128::from(size.output) + driven)
+}
+
+/// The delay of the chain of stages: each drives the next gate, the last drives the tree.
+fn stages_delay(net: &Net, sizing: &[u8], tree: &Tree) -> u128 {
+    let driven = |stage: usize| {
+        if stage + 1 < net.stages {
+            u128::from(size_at(net, sizing, stage + 1).gate)
         } else {
-            whole_tree
-        };
-        delay += u128::from(size(stage).resistance) * (u128::from(size(stage).output) + driven);
-    }
-    delay
+            tree.driven_by_stages
+        }
+    };
+    (0..net.stages)
+        .map(|stage| driver_delay(size_at(net, sizing, stage), driven(stage)))
+        .sum()
 }
 
-/// Twice the delay of the wires from the source to the far end of a segment.
-fn doubled_path_delay(net: &Net, wires: &Wires, segment: usize) -> u128 {
-    net.paths[segment]
+/// What a repeater adds to the delay of each sink below it.
+fn repeater_delay(net: &Net, sizing: &[u8], tree: &Tree, repeater: usize) -> u128 {
+    let size = size_at(net, sizing, net.repeater_place(repeater));
+    driver_delay(size, tree.driven_by_repeater[repeater])
+}
+
+/// Twice the delay of the path from the source to the sink of a segment: each segment on it, and each repeater between two of
+/// them. A repeater at the far end of the last one is behind the sink.
+fn doubled_path_delay(net: &Net, sizing: &[u8], tree: &Tree, segment: usize) -> u128 {
+    let path = &net.paths[segment];
+    let wires: u128 = path
         .iter()
-        .map(|&s| wires.resistance[s] * (wires.capacitance[s] + 2 * wires.under[s]))
-        .sum()
+        .map(|&s| tree.resistance[s] * (tree.capacitance[s] + 2 * tree.under[s]))
+        .sum();
+    let between = path[1..].iter().filter_map(|&s| net.repeaters[s]);
+    let repeaters: u128 = between.map(|r| repeater_delay(net, sizing, tree, r)).sum();
+    wires + 2 * repeaters
 }
 
 /// The scaled delay of an allowed sizing: twice the sum over the sinks of weight times delay.
 pub fn scaled_delay(net: &Net, sizing: &[u8]) -> u128 {
-    let wires = wires(net, sizing);
+    let tree = tree(net, sizing);
+    let stages = stages_delay(net, sizing, &tree);
     let mut delay = 0;
     for (segment, of_segment) in net.segments.iter().enumerate() {
         if let Some(sink) = &of_segment.sink {
-            let doubled = 2 * stages_delay(net, sizing, wires.whole_tree) + doubled_path_delay(net, &wires, segment);
-            delay += u128::from(sink.weight) * doubled;
+            delay += u128::from(sink.weight) * (2 * stages + doubled_path_delay(net, sizing, &tree, segment));
         }
     }
     delay
 }
 
-/// The load figure: all wires, all sinks, the gates of stages 1 and up, and the outputs of all stages.
+/// The load figure: all wires, all sinks, the gates of stages 1 and up, the outputs of all stages, and the gates and outputs of
+/// all repeaters.
 pub fn load_figure(net: &Net, sizing: &[u8]) -> u128 {
-    let size = |stage: usize| &net.sizes[usize::from(sizing[stage])];
-    let gates: u128 = (1..net.stages).map(|stage| u128::from(size(stage).gate)).sum();
-    let outputs: u128 = (0..net.stages).map(|stage| u128::from(size(stage).output)).sum();
-    wires(net, sizing).whole_tree + gates + outputs
+    let tree = tree(net, sizing);
+    let wires: u128 = tree.capacitance.iter().sum();
+    let sinks: u128 = (0..net.segments.len()).map(|s| sink_capacitance(net, s)).sum();
+    let repeaters = net.repeater_place(0)..net.places();
+    let gate = |place: usize| u128::from(size_at(net, sizing, place).gate);
+    let output = |place: usize| u128::from(size_at(net, sizing, place).output);
+    let gates: u128 = (1..net.stages).chain(repeaters.clone()).map(gate).sum();
+    let outputs: u128 = (0..net.stages).chain(repeaters).map(output).sum();
+    wires + sinks + gates + outputs
 }
 
 /// The tie at a place, the rest held: of all allowed indices those that give the smallest delay.

@@ -1,4 +1,4 @@
-//! The worked jobs of the specification, and a clock net of realistic shape.
+//! The worked jobs of the specification, jobs of two layers and jobs with repeaters, and a clock net of realistic shape.
 
 use crate::plan::{Plan, PlannedSegment, segment_with_sink, segment_without_sink};
 
@@ -118,12 +118,126 @@ pub fn layered() -> Vec<(Vec<u8>, u64)> {
         (with(on_layer(1), &[(111, 2)]), 24),
         (with(on_layer(1), &[(2, 1)]), 24),
         (with(j1(), &[(79, 1)]), 24),
-        (with(on_layer(1), &[(0, 5), (50, 2)]), 2),
+        (with(on_layer(1), &[(0, 6), (50, 2)]), 2),
         (with(nine_widths(), &[(191, 2)]), 24),
         (with(no_first, &[]), 3),
         (with(on_layer(1), &[(33, 2), (49, 3)]), 4),
         (with(on_layer(1), &[(52, 3)]), 7),
         (with(on_layer(1), &[(110, 2)]), 10),
+    ]
+}
+
+/// One stage, segment 0 with a sink and a repeater at its far end, and one branch behind it. With segment 0 at width 0, segment 1
+/// at width 0 or 1 and the repeater at size 0 or 1, in order:
+///
+/// | | (0, 0) | (1, 0) | (0, 1) | (1, 1) |
+/// |---|---|---|---|---|
+/// | load under segment 0: its sink, the gate | 5 + 3 = 8 | 8 | 5 + 7 = 12 | 12 |
+/// | the stage: 10 × (1 + 2 + that load) | 110 | 110 | 150 | 150 |
+/// | segment 0: 4 × (1 + that load) | 36 | 36 | 52 | 52 |
+/// | **sink 0**, before the repeater | 146 | 146 | 202 | 202 |
+/// | load of the branch: segment 1, its sink | 2 + 4 = 6 | 3 + 4 = 7 | 6 | 7 |
+/// | the repeater | 10 × (1 + 6) = 70 | 10 × (1 + 7) = 80 | 5 × (1 + 6) = 35 | 5 × (1 + 7) = 40 |
+/// | segment 1 | 4 × (1 + 4) = 20 | 2 × (3/2 + 4) = 11 | 20 | 11 |
+/// | **sink 1** | 146 + 70 + 20 = 236 | 237 | 202 + 35 + 20 = 257 | 253 |
+/// | scaled: 2 × (sink 0 + sink 1) | 764 | 766 | 918 | 910 |
+///
+/// The load figure at the first: wires 2 + 2, sinks 5 + 4, output 1 of the stage, gate 3 and output 1 of the repeater: 18.
+pub fn one_repeater() -> Plan {
+    Plan {
+        widths: vec![[4, 2], [2, 3]],
+        sizes: vec![[10, 3, 1], [5, 7, 1]],
+        stages: vec![[0, 0]],
+        segments: vec![segment_with_sink(0, 1, 5, 1, [0, 0]), segment_with_sink(1, 1, 4, 1, [0, 1])],
+        repeaters: vec![[0, 0, 1]],
+        ..Plan::default()
+    }
+}
+
+/// The same with no weight behind the repeater: twice sink 0, so 292 with size 0 and 404 with size 1, whatever width segment 1 has.
+pub fn weightless_behind() -> Plan {
+    let mut plan = one_repeater();
+    plan.segments[1].weight = 0;
+    plan
+}
+
+/// The same with segment 1 at width 0 alone and a sink of capacitance 11 and weight 4 there, so that both sizes tie. The load of
+/// the branch is 13 and segment 1 adds 4 × (1 + 11) = 48.
+///
+/// - Size 0: sink 0 has 146, the repeater adds 10 × (1 + 13) = 140, sink 1 has 334, and 2 × (146 + 4 × 334) = 2,964.
+/// - Size 1: sink 0 has 202, the repeater adds 5 × (1 + 13) = 70, sink 1 has 320, and 2 × (202 + 4 × 320) = 2,964.
+pub fn tied_repeater() -> Plan {
+    let mut plan = one_repeater();
+    plan.segments[1] = segment_with_sink(1, 1, 11, 4, [0, 0]);
+    plan
+}
+
+/// A repeater behind a repeater: the first, at segment 0, drives the branches 1 and 3, the second, at segment 1, drives segment 2.
+/// Resistances and capacitances of segments 0 to 3 are 2, 1, 2, 3. With the repeaters at sizes 0 or 1, in order:
+///
+/// | | (0, 0) | (1, 0) | (0, 1) | (1, 1) |
+/// |---|---|---|---|---|
+/// | the stage: 3 × (1 + 2 + gate of the first) | 15 | 24 | 15 | 24 |
+/// | segment 0: 2 × (1 + gate of the first) | 6 | 12 | 6 | 12 |
+/// | load of branch 1: wire, sink, gate of the second | 1 + 3 + 2 = 6 | 6 | 1 + 3 + 5 = 9 | 9 |
+/// | load of branch 3: wire, sink | 3 + 6 = 9 | 9 | 9 | 9 |
+/// | the first repeater | 3 × (1 + 15) = 48 | 2 × (4 + 15) = 38 | 3 × (1 + 18) = 57 | 2 × (4 + 18) = 44 |
+/// | segment 1: 1 × (1/2 + sink + gate of the second) | 5.5 | 5.5 | 8.5 | 8.5 |
+/// | **sink 1** | 74.5 | 79.5 | 86.5 | 88.5 |
+/// | the second repeater: its branch has 2 + 4 | 3 × (1 + 6) = 21 | 21 | 2 × (4 + 6) = 20 | 20 |
+/// | **sink 2**: segment 2 adds 2 × (1 + 4) = 10 | 105.5 | 110.5 | 116.5 | 118.5 |
+/// | **sink 3**: segment 3 adds 3 × (3/2 + 6) = 22.5 | 91.5 | 96.5 | 100.5 | 102.5 |
+/// | scaled: 2 × (sink 1 + 2 × sink 2 + sink 3) | 754 | 794 | 840 | 856 |
+///
+/// The load figure at the first: wires 2 + 1 + 2 + 3, sinks 3 + 4 + 6, output 1 of the stage, twice gate 2 and output 1: 28.
+pub fn two_repeaters() -> Plan {
+    Plan {
+        widths: vec![[1, 1]],
+        sizes: vec![[3, 2, 1], [2, 5, 4]],
+        stages: vec![[0, 0]],
+        segments: vec![
+            segment_without_sink(0, 2, [0, 0]),
+            segment_with_sink(1, 1, 3, 1, [0, 0]),
+            segment_with_sink(2, 2, 4, 2, [0, 0]),
+            segment_with_sink(1, 3, 6, 1, [0, 0]),
+        ],
+        repeaters: vec![[0, 0, 1], [1, 0, 1]],
+        ..Plan::default()
+    }
+}
+
+/// The worked jobs with repeaters.
+pub fn with_repeaters() -> Vec<Plan> {
+    vec![one_repeater(), weightless_behind(), tied_repeater(), two_repeaters()]
+}
+
+/// Jobs with repeaters, each with its number: the two that pass, question 22 in each of its ways, 23 in both, 22 before 23, 11
+/// before 22, and 2, 3, 4 and 5 where repeaters change them.
+pub fn repeated() -> Vec<(Vec<u8>, u64)> {
+    // segments are the records 4 to 7, repeaters 8 and 9
+    let with = |bytes: &[(usize, usize, u8)]| {
+        let mut job = two_repeaters().bytes();
+        bytes.iter().for_each(|&(record, at, byte)| job[16 * record + at] = byte);
+        job
+    };
+    let mut nine = two_repeaters();
+    nine.repeaters = vec![[0, 0, 1]; 9];
+    vec![
+        (one_repeater().bytes(), 0),
+        (with(&[]), 0),
+        (with(&[(9, 2, 4)]), 22),
+        (with(&[(9, 2, 2)]), 22),
+        (with(&[(9, 2, 0)]), 22),
+        (with(&[(8, 2, 1), (9, 2, 0)]), 22),
+        (with(&[(9, 3, 1), (9, 4, 0)]), 23),
+        (with(&[(9, 4, 2)]), 23),
+        (with(&[(9, 2, 4), (8, 4, 2)]), 22),
+        (with(&[(7, 3, 0), (7, 8, 0), (7, 12, 0), (9, 2, 4), (9, 4, 2)]), 11),
+        (with(&[(9, 0, 6)]), 2),
+        (with(&[(9, 0, 4)]), 2),
+        (nine.bytes(), 3),
+        (with(&[(9, 1, 0)]), 4),
+        (with(&[(8, 5, 1)]), 5),
     ]
 }
 

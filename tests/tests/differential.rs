@@ -2,8 +2,11 @@
 #![cfg(feature = "library")]
 
 use numlejka_tests::batches::{
-    BOTH_LAYERS, Counts, LAYER_1, LAYER_FAULTS, MOST_ALLOWED, ONE_BEST, ONE_INDEX, OUTPUTS, STRAY_SINK, TIE, count,
-    damaged_calls, large_calls, largest_calls, layered_calls, length_calls, limit_calls, room_calls, small_calls, worked_calls,
+    BEFORE_FAULTS, BOTH_LAYERS, CHAINED, Counts, EIGHT_REPEATERS, LAYER_1, LAYER_FAULTS, MOST_ALLOWED, ONE_BEST,
+    ONE_BEST_REPEATER, ONE_INDEX, OUTPUTS, REPEATER_FAULTS, REPEATERS, STRAY_SINK, TIE, TIE_AT_REPEATER, TIE_IN_CHAIN,
+    WEIGHTLESS_BEHIND, count, damaged_calls, damaged_repeater_calls, fault_calls, large_calls, large_repeater_calls,
+    largest_calls, layered_calls, length_calls, limit_calls, repeated_calls, repeater_calls, repeater_limit_calls,
+    repeater_room_calls, room_calls, small_calls, worked_calls,
 };
 use numlejka_tests::calls::{Call, expected, hex};
 use numlejka_tests::interface::run;
@@ -12,10 +15,13 @@ use numlejka_tests::random::{Random, SEED};
 /// How many small jobs one test tries; there are two such tests.
 const SMALL_JOBS: usize = 12_000;
 
-/// How many damaged jobs are tried.
+/// How many small jobs with repeaters are tried.
+const REPEATER_JOBS: usize = 8_000;
+
+/// How many damaged jobs one test tries; there are two such tests, one with repeaters.
 const DAMAGED_JOBS: usize = 32_000;
 
-/// How many jobs of many segments are tried.
+/// How many jobs of many segments one test tries; there are two such tests, one with repeaters.
 const LARGE_JOBS: usize = 150;
 
 /// Runs a call and compares its number and every byte of its buffer; a difference stops with the call's text.
@@ -67,6 +73,27 @@ fn more_small_jobs() {
     compare_small("more small jobs", Random::new(22));
 }
 
+/// Small random jobs with repeaters, among which one behind another, eight, no weight behind one, refines at one that has several
+/// indices, and ties there, come often.
+#[test]
+fn jobs_with_repeaters() {
+    let mut random = Random::new(25);
+    let calls = (0..REPEATER_JOBS).flat_map(|_| repeater_calls(&mut random, MOST_ALLOWED));
+    let counts = compare_all("jobs with repeaters", calls);
+    for (kind, least) in [
+        (REPEATERS, 40_000),
+        (CHAINED, 25_000),
+        (EIGHT_REPEATERS, 5_000),
+        (WEIGHTLESS_BEHIND, 8_000),
+        (BOTH_LAYERS, 10_000),
+        (ONE_BEST_REPEATER, 4_000),
+        (TIE_AT_REPEATER, 800),
+        (TIE_IN_CHAIN, 300),
+    ] {
+        assert!(counts[&(kind, 0)] >= least, "{kind}");
+    }
+}
+
 /// Jobs with one to three damages over all four operations; a stray sink alone comes with each of 6 to 10, and no other number;
 /// 24 comes in each of its ways alone, and 3, 4, 7 and 10 come for layer 1 alone.
 #[test]
@@ -84,6 +111,21 @@ fn damaged_jobs() {
     }
     for number in [3, 4, 7, 10] {
         assert!(counts[&(LAYER_1, number)] >= 100, "{number} for layer 1 alone");
+    }
+}
+
+/// The same with repeaters: 22 and 23 come in each of their ways alone, a repeater's fault comes behind each number of a job but 1,
+/// and that of 23 behind 22.
+#[test]
+fn damaged_jobs_with_repeaters() {
+    let mut random = Random::new(26);
+    let calls = (0..DAMAGED_JOBS).flat_map(|_| damaged_repeater_calls(&mut random, MOST_ALLOWED));
+    let counts = compare_all("damaged jobs with repeaters", calls);
+    for (way, name) in REPEATER_FAULTS.into_iter().enumerate() {
+        assert!(counts[&(name, if way < 4 { 22 } else { 23 })] >= 300, "{name}");
+    }
+    for number in (2..=11).chain([22, 24]) {
+        assert!(counts[&(BEFORE_FAULTS, number)] >= 500, "{number}");
     }
 }
 
@@ -106,7 +148,19 @@ fn jobs_at_the_limits() {
     compare_all("jobs at the limits", limit_calls().into_iter());
 }
 
-/// Jobs of 68 places with the largest figures.
+/// The same for jobs with repeaters.
+#[test]
+fn repeaters_at_the_limits() {
+    compare_all("repeaters at the limits", repeater_limit_calls().into_iter());
+}
+
+/// Faults of repeaters where the questions of an operation would refuse too.
+#[test]
+fn faults_of_repeaters() {
+    compare_all("faults of repeaters", fault_calls().into_iter());
+}
+
+/// Jobs of 68 places, and with repeaters of 76, with the largest figures.
 #[test]
 fn largest_jobs() {
     compare_all("largest jobs", largest_calls().into_iter());
@@ -119,10 +173,26 @@ fn large_jobs() {
     compare_all("large jobs", (0..LARGE_JOBS).flat_map(|_| large_calls(&mut random)));
 }
 
+/// The same with repeaters.
+#[test]
+fn large_jobs_with_repeaters() {
+    let mut random = Random::new(27);
+    let calls = (0..LARGE_JOBS).flat_map(|_| large_repeater_calls(&mut random));
+    let counts = compare_all("large jobs with repeaters", calls);
+    assert!(counts[&(EIGHT_REPEATERS, 0)] >= 1_000);
+}
+
 /// Jobs with room at, below and above 65,536.
 #[test]
 fn jobs_around_the_largest_room() {
     compare_all("jobs around the largest room", room_calls().into_iter());
+}
+
+/// The same with repeaters: answered, and with 14.
+#[test]
+fn repeaters_around_the_largest_room() {
+    let counts = compare_all("repeaters around the largest room", repeater_room_calls().into_iter());
+    assert!(counts[&("size", 0)] >= 4 && counts[&("size", 14)] >= 4);
 }
 
 /// The worked jobs: every sizing, place and pair.
@@ -135,6 +205,12 @@ fn worked_jobs() {
 #[test]
 fn worked_layers() {
     compare_all("worked layers", layered_calls().into_iter());
+}
+
+/// The worked jobs with repeaters: every sizing, place and pair.
+#[test]
+fn worked_repeaters() {
+    compare_all("worked repeaters", repeated_calls().into_iter());
 }
 
 /// One call alone, given as text in `CALL`.

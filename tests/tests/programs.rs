@@ -9,7 +9,9 @@ use std::os::unix::net::UnixStream;
 use std::path::PathBuf;
 use std::process::{Command, Output, Stdio};
 
-use numlejka_tests::questions;
+use numlejka_tests::limits::largest_plans;
+use numlejka_tests::plan::Plan;
+use numlejka_tests::questions::{self, MOST_PLACES};
 use numlejka_tests::reference;
 use numlejka_tests::reference_bounds::way_for;
 use numlejka_tests::worked;
@@ -44,7 +46,7 @@ fn run(name: &str, job: &[u8]) -> Output {
 
 /// The number and the reply of a job, by the reference.
 fn reply(job: &[u8]) -> (u64, Vec<u8>) {
-    let mut buffer = vec![0; 8 * 69];
+    let mut buffer = vec![0; 8 * (1 + MOST_PLACES)];
     let number = reference::size(job, &mut buffer, way_for(job));
     if number == 0 || number == 14 {
         let net = questions::read(job).expect("an answered job passes");
@@ -71,26 +73,30 @@ fn printed(job: &[u8]) -> String {
     if bytes.is_empty() {
         return text;
     }
-    let stages = job.chunks(16).filter(|record| record[0] == 3).count();
-    for (place, record) in bytes.chunks(8).skip(1).enumerate() {
-        let (kind, at) = if place < stages {
-            ("stage", place)
-        } else {
-            ("segment", place - stages)
-        };
+    let kinds = [(3, "stage"), (4, "segment"), (5, "repeater")];
+    let names = kinds.into_iter().flat_map(|(kind, name)| {
+        let count = job.chunks(16).filter(|record| record[0] == kind).count();
+        (0..count).map(move |at| format!("{name} {at}"))
+    });
+    for (place, record) in names.zip(bytes.chunks(8).skip(1)) {
         let found = if number == 0 {
             format!("{} {}", record[2], record[3])
         } else {
             "- -".to_string()
         };
-        text += &format!("{kind} {at} {} {} {found}\n", record[0], record[1]);
+        text += &format!("{place} {} {} {found}\n", record[0], record[1]);
     }
     text
 }
 
-/// The jobs: worked, refused, at the limit of room, too long, and the examples.
+/// The jobs: worked, refused, with repeaters, with as many places as there can be, at the limit of room, too long, and the
+/// examples.
 fn jobs() -> Vec<Vec<u8>> {
     let mut jobs: Vec<Vec<u8>> = worked::named().into_iter().map(|(_, plan)| plan.bytes()).collect();
+    jobs.extend(worked::with_repeaters().iter().map(Plan::bytes));
+    jobs.extend(worked::repeated().into_iter().map(|(job, _)| job));
+    let largest = largest_plans().into_iter().filter(|(_, plan)| plan.places() == MOST_PLACES);
+    jobs.extend(largest.step_by(7).map(|(_, plan)| plan.bytes()));
     jobs.push(worked::clock().bytes());
     jobs.push(worked::weightless(8).bytes());
     jobs.push(worked::weightless(9).bytes());
@@ -137,6 +143,13 @@ fn sizer_reply_writes_the_reply_or_a_line_on_standard_error() {
         };
         assert_eq!(String::from_utf8_lossy(&output.stderr), line);
     }
+}
+
+#[test]
+fn a_repeater_has_its_line() {
+    let output = run("sizer", &worked::tied_repeater().bytes());
+    let lines = "answer 0\ndelay 2964\nstage 0 0 0 0 0\nsegment 0 0 0 0 0\nsegment 1 0 0 0 0\nrepeater 0 0 1 0 1\n";
+    assert_eq!(String::from_utf8_lossy(&output.stdout), lines);
 }
 
 #[test]

@@ -1,21 +1,26 @@
 //! Tests of the reference itself: the worked jobs, the two ways to the bounds, the limits, and what the generators reach.
 
 use numlejka_tests::batches::{
-    Counts, LAYER_1, LAYER_FAULTS, MOST_ALLOWED, STRAY_SINK, count_expected, damaged_calls, limit_calls, room_calls, small_calls,
-    worked_calls,
+    BEFORE_FAULTS, CHAINED, Counts, EIGHT_REPEATERS, LAYER_1, LAYER_FAULTS, MOST_ALLOWED, ONE_BEST_REPEATER, REPEATER_FAULTS,
+    REPEATERS, STRAY_SINK, TIE_AT_REPEATER, TIE_IN_CHAIN, WEIGHTLESS_BEHIND, count_expected, damaged_calls,
+    damaged_repeater_calls, fault_calls, job_of, limit_calls, repeated_calls, repeater_calls, repeater_limit_calls,
+    repeater_room_calls, room_calls, roomy_with, small_calls, worked_calls,
 };
-use numlejka_tests::calls::Call;
-use numlejka_tests::generate::{allowed_sizing, large_plan, marked, small_plan};
-use numlejka_tests::limits::{largest_plans, limits};
-use numlejka_tests::plan::{Plan, segment_with_sink};
-use numlejka_tests::questions::{Net, first_no, read};
+use numlejka_tests::calls::{Call, expected};
+use numlejka_tests::generate::{allowed_sizing, large_plan, large_repeater_plan, marked, repeater_plan, small_plan};
+use numlejka_tests::limits::{largest_plans, limits, repeater_limits};
+use numlejka_tests::plan::{Plan, segment_with_sink, segment_without_sink};
+use numlejka_tests::questions::{MOST_PLACES, MOST_UNREPEATED, Net, first_no, read};
 use numlejka_tests::random::{Random, SEED};
 use numlejka_tests::reference::{
-    Bounds, Choice, EXHAUSTIVE, Least, Side, Tie, choose, chosen, exhaustive_bounds, exhaustive_least, measure, refine, rests,
-    room, scaled_delay, size,
+    Bounds, Choice, EXHAUSTIVE, Least, Side, Tie, choose, chosen, exhaustive_bounds, exhaustive_least, load_figure, measure,
+    refine, rests, room, scaled_delay, size,
 };
 use numlejka_tests::reference_bounds::{SWEPT, least_between, swept_bounds};
-use numlejka_tests::worked::{clock, j1, j2, j3, j4, j5, layered, on_layer, refused, weightless};
+use numlejka_tests::worked::{
+    clock, j1, j2, j3, j4, j5, layered, on_layer, one_repeater, refused, repeated, tied_repeater, two_repeaters, weightless,
+    weightless_behind,
+};
 
 /// The net of a plan that passes its questions.
 fn net_of(plan: &Plan) -> Net {
@@ -123,6 +128,147 @@ fn layers_have_rows_of_their_own() {
     }
 }
 
+/// One repeater behind a sink: the four delays that its table works out, least, bounds, load, refine at the repeater, choose, and
+/// the reply byte by byte, of exactly its length and with a buffer one byte shorter.
+#[test]
+fn a_repeater_stands_between_a_sink_and_the_branches() {
+    let (plan, job) = (one_repeater(), one_repeater().bytes());
+    let sizings = [[0, 0, 0, 0], [0, 0, 1, 0], [0, 0, 0, 1], [0, 0, 1, 1]];
+    assert_eq!(sizings.map(|sizing| delay(&plan, &sizing)), [764, 766, 918, 910]);
+    assert_eq!(measure(&job, &[0, 0, 0, 0]).load, 18);
+    assert_eq!(measure(&job, &[0, 0, 1, 1]).load, 23);
+    assert_eq!(refine(&job, &[0, 0, 1, 1], 3).tie, tie(0, 0, 766));
+    assert_eq!(refine(&job, &[0, 0, 0, 1], 2).tie, tie(1, 1, 910));
+    assert_eq!(refine(&job, &[0, 0, 0, 1], 4).number, 17);
+    assert_eq!(measure(&job, &[0, 0, 0]).number, 15);
+    assert_eq!(measure(&job, &[0, 0, 0, 2]).number, 16);
+    assert_eq!(chosen(&job, &[0, 0, 0, 1, 9], &[0, 0, 1, 1, 9]), [0, 0, 1, 1]);
+    let mut reply = marked(40);
+    assert_eq!(size(&job, &mut reply, &EXHAUSTIVE), 0);
+    assert_eq!(reply, [&764u64.to_le_bytes()[..], &[0; 32]].concat());
+    let mut short = marked(39);
+    assert_eq!(size(&job, &mut short, &EXHAUSTIVE), 12);
+    assert_eq!(short, marked(39));
+}
+
+/// Readings of a repeater that are wrong: one that its own segment's sink waits for, one that is seen through, one whose gate or
+/// whose output is not counted, and one before its segment's sink.
+#[test]
+fn wrong_readings_of_a_repeater_give_other_delays() {
+    let found = delay(&one_repeater(), &[0, 0, 0, 0]);
+    assert_eq!(found, 764);
+    for wrong in [
+        2 * ((110 + 36 + 70) + (110 + 36 + 70 + 20)),
+        2 * ((10 * (1 + 2 + 14) + 4 * (1 + 14)) * 2 + 70 + 20),
+        2 * ((10 * (1 + 2 + 5) + 4 * (1 + 5)) * 2 + 70 + 20),
+        2 * ((110 + 36) * 2 + 10 * 6 + 20),
+        2 * ((10 * (1 + 2 + 3) + 4 * (1 + 3) + 10 * (1 + 5 + 6)) * 2 + 20),
+    ] {
+        assert_ne!(found, wrong);
+    }
+}
+
+/// Without a weight behind the repeater all widths there tie, and the smallest gate is best.
+#[test]
+fn nothing_is_chosen_behind_a_repeater_without_weight() {
+    let plan = weightless_behind();
+    let sizings = [[0, 0, 0, 0], [0, 0, 1, 0], [0, 0, 0, 1], [0, 0, 1, 1]];
+    assert_eq!(sizings.map(|sizing| delay(&plan, &sizing)), [292, 292, 404, 404]);
+    assert_eq!(least(&plan), (292, vec![0, 0, 0, 0], vec![0, 0, 1, 0]));
+}
+
+/// Two sizes of a repeater tie, and lean and wide differ there.
+#[test]
+fn a_repeater_may_tie() {
+    let plan = tied_repeater();
+    assert_eq!([0, 1].map(|index| delay(&plan, &[0, 0, 0, index])), [2_964, 2_964]);
+    assert_eq!(refine(&plan.bytes(), &[0, 0, 0, 0], 3).tie, tie(0, 1, 2_964));
+    assert_eq!(least(&plan), (2_964, vec![0, 0, 0, 0], vec![0, 0, 0, 1]));
+}
+
+/// A repeater behind a repeater: the four delays that its table works out, and the load.
+#[test]
+fn a_repeater_may_sit_behind_a_repeater() {
+    let plan = two_repeaters();
+    let at = |first: u8, second: u8| [0, 0, 0, 0, 0, first, second];
+    let sizings = [at(0, 0), at(1, 0), at(0, 1), at(1, 1)];
+    assert_eq!(sizings.map(|sizing| delay(&plan, &sizing)), [754, 794, 840, 856]);
+    assert_eq!(measure(&plan.bytes(), &at(0, 0)).load, 28);
+    assert_eq!(least(&plan), (754, at(0, 0).to_vec(), at(0, 0).to_vec()));
+}
+
+/// The numbers of the worked jobs with repeaters.
+#[test]
+fn worked_jobs_with_repeaters_get_their_numbers() {
+    for (job, number) in repeated() {
+        assert_eq!(first_no(&job), number, "{job:?}");
+    }
+}
+
+/// The load figure has the gate and the output of each repeater once, each in digits of its own, beside those of the stages.
+#[test]
+fn each_repeater_is_counted_once() {
+    let plan = Plan {
+        widths: vec![[2, 1], [1, 2]],
+        sizes: vec![[3, 10, 1_000], [2, 20, 5_000], [1, 30, 2_000]],
+        stages: vec![[0, 0], [0, 2]],
+        segments: vec![
+            segment_without_sink(0, 1, [0, 1]),
+            segment_with_sink(1, 3, 500, 0, [0, 1]),
+            segment_with_sink(2, 4, 100, 1, [0, 1]),
+        ],
+        repeaters: vec![[0, 0, 2], [1, 0, 2]],
+        ..Plan::default()
+    };
+    let load = |sizing: &[u8]| measure(&plan.bytes(), sizing).load;
+    // wires 1 + 3 + 4, sinks 600, gates 10 + 10 + 10, outputs 4 × 1,000
+    assert_eq!(load(&[0, 0, 0, 0, 0, 0, 0]), 4_638);
+    // wires 1 + 6 + 4, sinks 600, gates 10 + 20 + 30, outputs 2 × 1,000 + 5,000 + 2,000
+    assert_eq!(load(&[0, 0, 0, 1, 0, 1, 2]), 9_671);
+    // wires 2 + 6 + 8, sinks 600, gates 30 + 30 + 20, outputs 1,000 + 2 × 2,000 + 5,000
+    assert_eq!(load(&[0, 2, 1, 1, 1, 2, 1]), 10_696);
+}
+
+/// A repeater splits a net in two: with one at the far end of a trunk, the delay is that of the trunk with the repeater's gate for a
+/// sink that has all the weights, and that of the branches with the repeater for their stage.
+#[test]
+fn a_repeater_splits_the_net() {
+    let mut random = Random::new(6);
+    let mut split = 0;
+    for _ in 0..4_000 {
+        let plan = repeater_plan(&mut random, MOST_ALLOWED);
+        if plan.repeaters.len() != 1 || plan.repeaters[0][0] != 0 || plan.segments[1..].iter().any(|segment| segment.parent == 0)
+        {
+            continue;
+        }
+        let sizing = allowed_sizing(&mut random, &plan);
+        let (stages, own) = (plan.stages.len(), *sizing.last().expect("a repeater's index"));
+        let weight: u128 = plan.segments.iter().map(|segment| u128::from(segment.weight)).sum();
+        let behind: u128 = plan.segments[1..].iter().map(|segment| u128::from(segment.weight)).sum();
+        let mut before = plan.clone();
+        before.repeaters.clear();
+        before.segments.truncate(1);
+        let gate = plan.sizes[usize::from(own)][1];
+        before.segments[0] = segment_with_sink(0, plan.segments[0].length, plan.segments[0].capacitance + gate, 1, [0, 0]);
+        before.segments[0].layer = plan.segments[0].layer;
+        before.set_range(stages, plan.ranges()[stages]);
+        if before.segments[0].capacitance > 100_000 {
+            continue;
+        }
+        let mut after = plan.clone();
+        after.repeaters.clear();
+        after.segments.remove(0);
+        after.segments.iter_mut().for_each(|segment| segment.parent -= 1);
+        after.stages = vec![[own, own]];
+        let in_front = delay(&before, &sizing[..=stages]);
+        let behind_it = delay(&after, &[&[own], &sizing[stages + 1..sizing.len() - 1]].concat());
+        assert_eq!(delay(&plan, &sizing), weight * in_front + behind_it, "{plan:?}");
+        split += usize::from(behind > 0);
+    }
+    println!("{split} nets split");
+    assert!(split > 200);
+}
+
 /// Both ends of a tie reach its delay, and an index between them may be worse.
 #[test]
 fn an_index_between_the_ends_may_be_worse() {
@@ -142,8 +288,12 @@ fn an_index_between_the_ends_may_be_worse() {
 fn both_ends_reach_the_delay() {
     let mut random = Random::new(5);
     let mut ties = 0;
-    for _ in 0..2_000 {
-        let plan = small_plan(&mut random, 1_024);
+    for case in 0..3_000 {
+        let plan = if case < 2_000 {
+            small_plan(&mut random, 1_024)
+        } else {
+            repeater_plan(&mut random, 1_024)
+        };
         let (job, sizing) = (plan.bytes(), allowed_sizing(&mut random, &plan));
         for (place, [lowest, highest]) in plan.ranges().into_iter().enumerate() {
             let found = refine(&job, &sizing, place).tie;
@@ -236,8 +386,23 @@ fn short_sizings_and_far_places_get_15_16_17() {
 /// Every field and count at its limit and beyond.
 #[test]
 fn every_limit_gets_its_number() {
-    for limit in limits() {
+    for limit in limits().into_iter().chain(repeater_limits()) {
         assert_eq!(first_no(&limit.job), limit.number, "{}", limit.name);
+    }
+}
+
+/// 22 and 23 come before 12 and before 14 to 17, in jobs among which some have too much room.
+#[test]
+fn faults_of_repeaters_come_before_the_operations_own_questions() {
+    let sound = roomy_with(&mut Random::new(17), [6, 0, 15]);
+    assert_eq!(size(&sound, &mut marked(8 * (1 + MOST_PLACES)), &SWEPT), 14);
+    for call in fault_calls() {
+        let number = expected(&call).number;
+        match call {
+            Call::Choose { .. } => assert_eq!(number, 0),
+            _ => assert_eq!(number, first_no(job_of(&call))),
+        }
+        assert!(matches!(first_no(job_of(&call)), 22 | 23));
     }
 }
 
@@ -254,14 +419,13 @@ fn check_theory(net: &Net, bounds: &Bounds, found: &Least) {
     assert_eq!(scaled_delay(net, &found.wide), found.delay);
 }
 
-/// The sweeps and the search between the bounds agree with the definitions on small jobs.
-#[test]
-fn both_ways_agree_on_small_jobs() {
+/// The sweeps and the search between the bounds agree with the definitions on jobs that a generator makes; how often a job with
+/// weights has a tie, a bound apart from lean or wide, and room above 1.
+fn both_ways_agree(mut random: Random, jobs: usize, make: fn(&mut Random, u128) -> Plan) -> [usize; 3] {
     println!("seed {SEED:#x}");
-    let mut random = Random::new(1);
     let (mut ties, mut gaps, mut several_rooms) = (0, 0, 0);
-    for _ in 0..6_000 {
-        let plan = small_plan(&mut random, 1_024);
+    for _ in 0..jobs {
+        let plan = make(&mut random, 1_024);
         let net = net_of(&plan);
         let bounds = exhaustive_bounds(&net);
         let found = exhaustive_least(&net, &bounds);
@@ -275,6 +439,20 @@ fn both_ways_agree_on_small_jobs() {
         several_rooms += usize::from(weighted && room(&bounds) > 1);
     }
     println!("weighted jobs: {ties} with a tie, {gaps} with a bound apart from lean or wide, {several_rooms} with room above 1");
+    [ties, gaps, several_rooms]
+}
+
+/// Small jobs without repeaters.
+#[test]
+fn both_ways_agree_on_small_jobs() {
+    let [ties, gaps, _] = both_ways_agree(Random::new(1), 6_000, small_plan);
+    assert!(ties > 100 && gaps > 100);
+}
+
+/// Small jobs with repeaters.
+#[test]
+fn both_ways_agree_on_jobs_with_repeaters() {
+    let [ties, gaps, _] = both_ways_agree(Random::new(7), 3_000, repeater_plan);
     assert!(ties > 100 && gaps > 100);
 }
 
@@ -283,8 +461,13 @@ fn both_ways_agree_on_small_jobs() {
 fn large_jobs_keep_the_theory() {
     let mut random = Random::new(2);
     let mut rooms = Vec::new();
-    for _ in 0..60 {
-        let net = net_of(&large_plan(&mut random));
+    for case in 0..120 {
+        let plan = if case < 60 {
+            large_plan(&mut random)
+        } else {
+            large_repeater_plan(&mut random)
+        };
+        let net = net_of(&plan);
         let bounds = swept_bounds(&net);
         rooms.push(room(&bounds));
         if room(&bounds) <= 65_536 {
@@ -294,19 +477,31 @@ fn large_jobs_keep_the_theory() {
     println!("rooms {rooms:?}");
 }
 
-/// The largest figures stay below 2^63.
+/// The largest delays stay below 2^63, and the largest load figures are those of all wires, sinks, gates and outputs at their
+/// limits.
 #[test]
 fn the_largest_delay_is_below_2_to_63() {
-    let mut most = 0;
-    for (name, plan) in largest_plans() {
-        let net = net_of(&plan);
-        assert_eq!(net.places(), 68, "{name}");
-        most = most
-            .max(scaled_delay(&net, &net.lowest()))
-            .max(scaled_delay(&net, &net.highest()));
+    for (repeaters, places) in [(0, MOST_UNREPEATED), (8, MOST_PLACES)] {
+        let (mut delay, mut load) = (0, 0);
+        for (name, plan) in largest_plans().iter().filter(|(_, plan)| plan.repeaters.len() == repeaters) {
+            let net = net_of(plan);
+            assert_eq!(net.places(), places, "{name}");
+            for sizing in [net.lowest(), net.highest()] {
+                delay = delay.max(scaled_delay(&net, &sizing));
+                load = load.max(load_figure(&net, &sizing));
+            }
+        }
+        println!(
+            "{repeaters} repeaters: largest delay {delay}, that is 2^{:.2}, largest load {load}",
+            (delay as f64).log2()
+        );
+        assert!(delay > 1 << 58 && delay < 1 << 63);
+        // 64 wires of 1,000 × 100, 64 sinks, 3 gates and 4 outputs of the stages, 8 gates and outputs of the repeaters
+        assert_eq!(
+            load,
+            64 * 100_000 + 64 * 100_000 + 3 * 100_000 + 4 * 100_000 + repeaters as u128 * 200_000
+        );
     }
-    println!("largest delay {most}, that is 2^{:.2}", (most as f64).log2());
-    assert!(most < 1 << 63);
 }
 
 /// The clock net has 40 sinks or more, room above 1, and is answered.
@@ -323,7 +518,8 @@ fn the_clock_net_is_answered() {
 }
 
 /// The generated calls reach every number of every operation, and no other; a stray sink alone each of 6 to 10, and no other;
-/// 24 in each of its ways; and 3, 4, 7 and 10 for layer 1 alone.
+/// 24, 22 and 23 in each of their ways; 3, 4, 7 and 10 for layer 1 alone; a fault of repeaters behind each number of a job but 1,
+/// 22 before 23 too; and what there is to meet at repeaters.
 #[test]
 fn every_number_is_reached() {
     let mut counts = Counts::new();
@@ -337,19 +533,42 @@ fn every_number_is_reached() {
     count_expected(&mut counts, &limit_calls());
     count_expected(&mut counts, &worked_calls());
     count_expected(&mut counts, &room_calls());
+    for _ in 0..20_000 {
+        count_expected(&mut counts, &damaged_repeater_calls(&mut random, MOST_ALLOWED));
+    }
+    for _ in 0..500 {
+        count_expected(&mut counts, &repeater_calls(&mut random, MOST_ALLOWED));
+    }
+    count_expected(&mut counts, &repeater_limit_calls());
+    count_expected(&mut counts, &repeated_calls());
+    count_expected(&mut counts, &repeater_room_calls());
+    count_expected(&mut counts, &fault_calls());
     for ((operation, number), times) in &counts {
         println!("{operation} {number}: {times}");
     }
     let reached = |operation: &str| -> Vec<u64> { counts.keys().filter(|key| key.0 == operation).map(|key| key.1).collect() };
-    assert_eq!(reached("size"), (0..=12).chain([14, 24]).collect::<Vec<u64>>());
-    assert_eq!(reached("measure"), (0..=11).chain([15, 16, 24]).collect::<Vec<u64>>());
-    assert_eq!(reached("refine"), (0..=11).chain([15, 16, 17, 24]).collect::<Vec<u64>>());
+    assert_eq!(reached("size"), (0..=12).chain([14, 22, 23, 24]).collect::<Vec<u64>>());
+    assert_eq!(reached("measure"), (0..=11).chain([15, 16, 22, 23, 24]).collect::<Vec<u64>>());
+    assert_eq!(
+        reached("refine"),
+        (0..=11).chain([15, 16, 17, 22, 23, 24]).collect::<Vec<u64>>()
+    );
     assert_eq!(reached("choose"), [0, 1, 2]);
     assert_eq!(reached(STRAY_SINK), [6, 7, 8, 9, 10]);
     for way in LAYER_FAULTS {
         assert!(counts.keys().any(|key| key.0 == way), "{way}");
     }
     assert_eq!(reached(LAYER_1), [3, 4, 7, 10]);
+    for (way, name) in REPEATER_FAULTS.into_iter().enumerate() {
+        assert_eq!(reached(name), [if way < 4 { 22 } else { 23 }], "{name}");
+    }
+    assert_eq!(reached(BEFORE_FAULTS), (2..=11).chain([22, 24]).collect::<Vec<u64>>());
+    for kind in [REPEATERS, EIGHT_REPEATERS, CHAINED, WEIGHTLESS_BEHIND] {
+        assert!(counts.contains_key(&(kind, 0)), "{kind}");
+    }
+    for kind in [ONE_BEST_REPEATER, TIE_AT_REPEATER, TIE_IN_CHAIN] {
+        assert_eq!(reached(kind), [0], "{kind}");
+    }
 }
 
 /// A call that is printed can be run again.

@@ -9,7 +9,7 @@ use numlejka_tests::interface::{choose, measure, refine, size};
 use numlejka_tests::plan::{Plan, segment_with_sink};
 
 /// What the header says to be enough for a call.
-const ENOUGH: usize = 24 * 1024;
+const ENOUGH: usize = 32 * 1024;
 
 /// The length of a painted stack, and the paint.
 const LENGTH: usize = 256 * 1024;
@@ -66,9 +66,9 @@ fn painted(call: &mut dyn FnMut() -> u64) -> (u64, usize) {
     (task.number, LENGTH - untouched)
 }
 
-/// A chain of 64 segments behind 4 stages. All weights are 0, so every allowed sizing lies between the bounds; 16 places
-/// have two indices each, so the search is as deep as room 65,536 allows.
-fn deepest() -> Plan {
+/// A chain of 64 segments behind 4 stages, with repeaters at its first segments. All weights are 0, so every allowed sizing lies
+/// between the bounds; 16 places have two indices each, so the search is as deep as room 65,536 allows.
+fn deepest(repeaters: u8) -> Plan {
     let range = |place: usize| [0, u8::from((1..=16).contains(&place))];
     let segment = |i: u8| segment_with_sink(i, 1_000, 100_000, 0, range(4 + usize::from(i)));
     Plan {
@@ -76,25 +76,37 @@ fn deepest() -> Plan {
         sizes: vec![[2, 1, 1], [1, 2, 1]],
         stages: (0..4).map(range).collect(),
         segments: (0..64).map(segment).collect(),
+        repeaters: (0..repeaters).map(|site| [site, 0, 0]).collect(),
         ..Plan::default()
     }
 }
 
-#[test]
-fn a_call_needs_little_stack() {
-    let job = deepest().bytes();
-    let (x, y) = ([0; 68], [0; 68]);
-    let (mut figures, mut ends, mut reply) = ([0; 16], [0; 10], [0; 552]);
+/// Measures each operation on the deepest job with so many repeaters.
+fn check(repeaters: u8) {
+    let plan = deepest(repeaters);
+    let (job, places) = (plan.bytes(), plan.places());
+    let (x, y) = (vec![0; places], vec![0; places]);
+    let (mut figures, mut ends, mut reply) = ([0; 16], [0; 10], vec![0; 8 * (1 + places)]);
     let (_, own) = painted(&mut || 0);
     let check = |name: &str, wanted: u64, call: &mut dyn FnMut() -> u64| {
         let (number, used) = painted(call);
-        println!("stack of {name}: {} bytes", used - own);
+        println!("stack of {name}, {repeaters} repeaters: {} bytes", used - own);
         assert_eq!(number, wanted);
         assert!(used - own <= ENOUGH);
     };
     check("measure", 0, &mut || measure(&job, &x, &mut figures));
     check("refine at the first place", 0, &mut || refine(&job, &x, 0, &mut ends));
-    check("refine at the last place", 0, &mut || refine(&job, &x, 67, &mut ends));
+    check("refine at the last place", 0, &mut || refine(&job, &x, places - 1, &mut ends));
     check("choose", 1, &mut || choose(&job, &x, &y));
     check("size", 0, &mut || size(&job, &mut reply));
+}
+
+#[test]
+fn a_call_needs_little_stack() {
+    check(0);
+}
+
+#[test]
+fn a_call_with_repeaters_needs_little_stack() {
+    check(8);
 }

@@ -1,8 +1,8 @@
 //! Numlejka sizes the drivers and wires of a clock net for the least weighted Elmore delay.
 //!
-//! A job is a slice of records of 16 bytes, a sizing one index for each place: `docs/specification.md` of the
-//! repository has the formats. Every function is total: it answers, or tells the question that the job or the sizing
-//! fails.
+//! A job is a slice of records of 16 bytes, a sizing one index for each place, stages first, then segments, then
+//! repeaters: `docs/specification.md` of the repository has the formats. Every function is total: it answers, or tells
+//! the question that the job or the sizing fails.
 //!
 //! ```
 //! use numlejka::{measure, refine, size, Reply};
@@ -29,7 +29,7 @@ pub mod c;
 use std::fmt;
 
 /// The scaled delay and the load figure of a sizing. The load figure is the capacitance of all wires, all sinks, the gates
-/// of stages 1 and up, and the outputs of all stages, stage 0 included, each once.
+/// of stages 1 and up, the outputs of all stages, stage 0 included, and the gates and outputs of all repeaters, each once.
 #[derive(Clone, Copy, Debug, PartialEq, Eq)]
 pub struct Figures {
     pub delay: u64,
@@ -69,7 +69,7 @@ pub struct Bounds {
     pub upper: u8,
 }
 
-/// What [`size`] answers; places stand stages first.
+/// What [`size`] answers; places stand stages first, then segments, then repeaters.
 #[derive(Clone, Debug, PartialEq, Eq)]
 pub enum Reply {
     /// The least scaled delay, and each place.
@@ -81,11 +81,11 @@ pub enum Reply {
 }
 
 /// The questions, each with its number, in the order in which they are asked.
-const QUESTIONS: [(usize, &str); 17] = [
+const QUESTIONS: [(usize, &str); 19] = [
     (1, "Is the length above 0 and a multiple of 16?"),
-    (2, "Is every kind 1 to 4, and does the kind never fall from one record to the next?"),
+    (2, "Is every kind 1 to 5, and does the kind never fall from one record to the next?"),
     (24, "Is every layer byte 0 or 1, does the layer never fall from one width to the next, and has layer 1 a width where a segment names it?"),
-    (3, "Are there 1 to 8 widths of layer 0 and at most 8 of layer 1, 1 to 16 sizes, 1 to 4 stages, 1 to 64 segments?"),
+    (3, "Are there 1 to 8 widths of layer 0 and at most 8 of layer 1, 1 to 16 sizes, 1 to 4 stages, 1 to 64 segments, at most 8 repeaters?"),
     (4, "Do the numbers count from 0 in each kind, those of widths in each layer?"),
     (5, "Are all unnamed bytes zero?"),
     (6, "Are the values of kinds 1 and 2 in range?"),
@@ -94,6 +94,8 @@ const QUESTIONS: [(usize, &str); 17] = [
     (9, "Is each parent byte at most the segment's own number?"),
     (10, "Are the segments' fields in range, capacitance and weight 0 where there is no sink, and lowest at most highest, which is below the count of widths of the segment's layer?"),
     (11, "Has every segment without branches a sink?"),
+    (22, "Is every repeater's segment there, has it branches, and does its number strictly rise from one repeater to the next?"),
+    (23, "Is every repeater's lowest at most its highest, which is below the count of sizes?"),
     (12, "Does the reply buffer hold 8 * (1 + P) bytes?"),
     (14, "Is room at most 65,536?"),
     (15, "Is each sizing at least P bytes long?"),
@@ -131,7 +133,10 @@ fn answered<T>(number: usize, answer: T) -> Result<T, Refusal> {
     }
 }
 
-/// P of a job that passes its questions: its stages and its segments.
+/// The most places that a job can have: 4 stages, 64 segments and 8 repeaters.
+const MOST_PLACES: usize = 76;
+
+/// P of a job that passes its questions: its stages, its segments and its repeaters.
 fn places_of(job: &[u8]) -> usize {
     job.chunks(16).filter(|record| record[0] >= 3).count()
 }
@@ -200,7 +205,7 @@ pub fn choose<'a>(job: &[u8], x: &'a [u8], y: &'a [u8]) -> Option<&'a [u8]> {
 
 /// The least delay of a job, with the bounds, lean and wide at each place.
 pub fn size(job: &[u8]) -> Reply {
-    let mut reply = [0; 8 * (1 + 68)];
+    let mut reply = [0; 8 * (1 + MOST_PLACES)];
     // SAFETY: each pointer has the length of its slice beside it, and the buffer is this function's own.
     let number =
         unsafe { c::numlejka_size(job.as_ptr(), job.len(), reply.as_mut_ptr(), reply.len()) };

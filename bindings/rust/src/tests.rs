@@ -1,4 +1,4 @@
-//! The worked jobs J1 to J5, and each way of refusing.
+//! The worked jobs J1 to J5, a job with a repeater, and each way of refusing.
 use super::*;
 
 type Record = [u8; 16];
@@ -34,6 +34,11 @@ fn segment(i: u8, parent: u8, length: u32, sink: u32, weight: u8, highest: u8) -
         [4, i, parent, 1],
         [length, sink, u32::from_le_bytes([weight, 0, highest, 0])],
     )
+}
+
+/// Repeater i at the far end of a segment, with its lowest and highest size.
+fn repeater(i: u8, segment: u8, lowest: u8, highest: u8) -> Record {
+    record([5, i, segment, lowest], [highest.into(), 0, 0])
 }
 
 /// The bytes of a job.
@@ -83,6 +88,20 @@ fn j5() -> Vec<u8> {
         record([4, 0, 0, 0], [1, 0, 0]),
         segment(1, 1, 2, 1, 1, 0),
         segment(2, 1, 3, 2, 2, 0),
+    ])
+}
+
+/// One stage, a segment with a sink and a repeater behind it, and a branch behind that.
+fn with_repeater() -> Vec<u8> {
+    job(&[
+        width(0, 4, 2),
+        width(1, 2, 3),
+        driver(0, 10, 3, 1),
+        driver(1, 5, 7, 1),
+        stage(0, 0, 0),
+        segment(0, 0, 1, 5, 1, 0),
+        segment(1, 1, 1, 4, 1, 1),
+        repeater(0, 0, 0, 1),
     ])
 }
 
@@ -140,6 +159,46 @@ fn load() {
             load: 11
         })
     );
+}
+
+/// At (0, 0, 0, 0) the sink of segment 0 has 10 × (1 + 2 + 5 + 3) + 4 × (1 + 5 + 3) = 146, and behind the repeater, which
+/// adds 10 × (1 + 2 + 4) = 70, the other has 146 + 70 + 4 × (1 + 4) = 236. At (0, 0, 1, 1) they have 202 and 253.
+#[test]
+fn a_repeater_is_a_place() {
+    let job = with_repeater();
+    assert_eq!(
+        measure(&job, &[0, 0, 0, 0]),
+        Ok(Figures {
+            delay: 2 * (146 + 236),
+            load: 2 + 2 + 5 + 4 + 1 + 3 + 1
+        })
+    );
+    assert_eq!(delay(&job, &[0, 0, 1, 1]), 2 * (202 + 253));
+    let best = refine(&job, &[0, 0, 0, 1], 3).unwrap();
+    assert_eq!((best.lowest, best.highest, best.delay), (0, 0, 764));
+    assert_eq!(
+        choose(&job, &[0, 0, 0, 1, 9], &[0, 0, 0, 0, 9]),
+        Some(&[0, 0, 0, 0][..])
+    );
+    assert_eq!(finished(&job), (764, vec![0; 4], vec![0; 4]));
+    assert_eq!(measure(&job, &[0, 0, 0]).unwrap_err().number, 15);
+    assert_eq!(measure(&job, &[0, 0, 0, 2]).unwrap_err().number, 16);
+    assert_eq!(refine(&job, &[0, 0, 0, 0], 4).unwrap_err().number, 17);
+}
+
+/// A chain of 64 segments behind four stages, with eight repeaters, and every reply fits.
+#[test]
+fn the_most_places() {
+    let mut records = vec![width(0, 2, 1), width(1, 1, 2)];
+    records.extend([driver(0, 2, 1, 0), driver(1, 1, 2, 0)]);
+    records.extend((0..4).map(|i| stage(i, 0, 0)));
+    records.extend((0..64).map(|i| segment(i, i, 1, 1, 0, 0)));
+    records.extend((0..8).map(|i| repeater(i, i, 0, 1)));
+    let job = job(&records);
+    assert_eq!(places_of(&job), MOST_PLACES);
+    let (least, lean, wide) = finished(&job);
+    assert_eq!((least, lean), (0, vec![0; MOST_PLACES]));
+    assert_eq!(wide, [[0; 68].as_slice(), &[1; 8]].concat());
 }
 
 #[test]
@@ -228,6 +287,18 @@ fn refusals() {
     assert_eq!(size(&bad), refused(5));
     bad[2] = 2;
     assert_eq!(size(&bad), refused(24));
+    let changed = |at: usize, byte: u8| {
+        let mut bad = with_repeater();
+        bad[16 * 7 + at] = byte;
+        size(&bad)
+    };
+    assert_eq!(changed(0, 6), refused(2));
+    assert_eq!(changed(1, 1), refused(4));
+    assert_eq!(changed(5, 1), refused(5));
+    assert_eq!(changed(2, 1), refused(22));
+    assert_eq!(changed(2, 2), refused(22));
+    assert_eq!(changed(3, 2), refused(23));
+    assert_eq!(changed(4, 2), refused(23));
     assert_eq!(measure(&j1(), &[0]).unwrap_err().number, 15);
     assert_eq!(measure(&j1(), &[0, 2]).unwrap_err().number, 16);
     assert_eq!(refine(&j1(), &[0], 0).unwrap_err().number, 15);
@@ -250,6 +321,10 @@ fn a_refusal_tells_its_question() {
     assert_eq!(question(14), "Is room at most 65,536?");
     assert_eq!(question(17), "Is the place below P?");
     assert!(question(24).starts_with("Is every layer byte 0 or 1"));
+    assert!(question(22).starts_with("Is every repeater's segment there"));
+    assert!(question(23).starts_with("Is every repeater's lowest at most its highest"));
+    let numbers: Vec<usize> = QUESTIONS.iter().map(|(number, _)| *number).collect();
+    assert_eq!(numbers[10..16], [10, 11, 22, 23, 12, 14]);
 }
 
 #[test]

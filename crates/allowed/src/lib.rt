@@ -25,7 +25,7 @@ fn in_ranges(job: &[u8], counts: Counts, sizing: &[u8]) -> bool
     requires { ⌜ placesBy counts ≤ length (now sizing) ⌝ }
     ensures { λ r. ⌜ r ≡ question16 (netBy counts (now (job .entry))) (now (sizing .entry)) ⌝ }
 {
-    let places = counts.stages + counts.segments;
+    let places = counts.stages + counts.segments + counts.repeaters;
     let mut p = 0;
     while p < places {
         if !index_in_range(job, counts, sizing, p) {
@@ -41,7 +41,7 @@ pub fn sizing_number(job: &[u8], counts: Counts, x: &[u8]) -> usize
     requires { ⌜ Held counts (now job) ⌝ }
     ensures { λ r. ⌜ r ≡ sizingNumber (netBy counts (now (job .entry))) (now (x .entry)) ⌝ }
 {
-    if x.len() < counts.stages + counts.segments {
+    if x.len() < counts.stages + counts.segments + counts.repeaters {
         return 15;
     }
     if !in_ranges(job, counts, x) {

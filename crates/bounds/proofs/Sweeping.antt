@@ -15,15 +15,11 @@ use Rattle.lattice.specs.Space.{Space, Lattice, Submodular, within}
 use Rattle.lattice.specs.Refine.{best, bound, refine, slack, Approaching}
 use Rattle.lattice.proofs.Refining.{at-set, approaching-step, approaching-stop}
 use Rattle.lattice.proofs.Theorems.{approaching-slack}
-use Rattle.net.specs.Net.{Net, places}
-use Rattle.net.specs.Delay.{delay}
-use Rattle.net.specs.Places.{drivenLoad}
-use Rattle.net.specs.Sizings.{allowed}
-use Rattle.net.specs.Checked.{Ordered, Limited}
-use Rattle.net.proofs.Places.{driven-reads}
-use Rattle.net.proofs.Dominance.{allowed-lattice, delay-submodular}
+use Rattle.net.specs.Driving.{Driving, allowedBy, drivenLoad, delayBy, before, Placed, InLimits}
+use Rattle.net.proofs.Driving.{driven-reads}
+use Rattle.net.proofs.InOrder.{driving-lattice}
 use Rattle.place.specs.Partial.{WeightsFrom}
-use Rattle.place.specs.Held.{hangsAt, before, onward, DrivenFrom, UpstreamTo}
+use Rattle.place.specs.Held.{onward, DrivenFrom, UpstreamTo}
 use Rattle.place.proofs.Driving.{driven-all}
 use Rattle.place.proofs.Upstream.{before-start, before-step, onward-reads, upstream-reads}
 use Rattle.refine.specs.declared.Ends.{Ends}
@@ -81,33 +77,33 @@ module _ {sp : Space} {D : List ℕ → ℕ} (la : Lattice sp) (sub : Submodular
   swept-end {x = x} i e = approaching-stop la sub s x (i .approaching) (i .still e)
 
 -- What a sweep's loop knows: the places from p on are as they were, and what is upstream of those before p is known.
-pub record Sweeping (net : Net) (s : Side) (x₀ : List ℕ) (p : ℕ) (x upstream : List ℕ) (changed : Bool) : Type 0 where
-  pub upTo : p ≤ places net
-  pub swept : Swept s (allowed net) (delay net) x₀ p x changed
+pub record Sweeping (net : Driving) (s : Side) (x₀ : List ℕ) (p : ℕ) (x upstream : List ℕ) (changed : Bool) : Type 0 where
+  pub upTo : p ≤ net .places
+  pub swept : Swept s (allowedBy net) (delayBy net) x₀ p x changed
   pub known : UpstreamTo net x x p upstream
-  pub later : (q : ℕ) → p ≤ q → q < places net → at x q ≡ at x₀ q
+  pub later : (q : ℕ) → p ≤ q → q < net .places → at x q ≡ at x₀ q
 
-module _ (net : Net) (o : Ordered net) (s : Side) (x₀ : List ℕ) where
-  pub sweeping-start : (upstream : List ℕ) → places net ≤ length upstream → Approaching s (allowed net) (delay net) x₀ → Sweeping net s x₀ 0 x₀ upstream false
+module _ (net : Driving) (o : Placed net) (s : Side) (x₀ : List ℕ) where
+  pub sweeping-start : (upstream : List ℕ) → net .places ≤ length upstream → Approaching s (allowedBy net) (delayBy net) x₀ → Sweeping net s x₀ 0 x₀ upstream false
   sweeping-start upstream h a =
       record { upTo = omega arith; swept = swept-start x₀ a; known = before-start net _ upstream h; later = λ q l m. refl }
 
-  module _ (p : ℕ) (few : p < places net) (x upstream : List ℕ) (changed : Bool) (i : Sweeping net s x₀ p x upstream changed) where
+  module _ (p : ℕ) (few : p < net .places) (x upstream : List ℕ) (changed : Bool) (i : Sweeping net s x₀ p x upstream changed) where
     -- the place drives what it drove when the sweep began
     drives-yet : (driven : List ℕ) → DrivenFrom net x₀ x₀ 0 driven → at driven p ≡ drivenLoad net x p
     drives-yet driven d =
-        driven-all net o x₀ driven d p few ∙ driven-reads net (o .parents) x₀ x p few (λ q l m. sym (i .later q (omega arith) m))
+        driven-all net o x₀ driven d p few ∙ driven-reads net (o .falls) x₀ x p (λ q l m. sym (i .later q (omega arith) m))
 
-    module _ (v : ℕ) (e : v ≡ before (onward net x x upstream) (hangsAt net p)) where
+    module _ (v : ℕ) (e : v ≡ before (onward net x x upstream) (net .hangsAt p)) where
       known-more : UpstreamTo net x x (suc p) (set upstream p v)
       known-more = let z : p + 1 ≡ suc p = omega arith in rw z at (before-step net o _ (onward-reads net x x) upstream p v few (i .known) e)
 
       -- what settling the place finds: both ends of its tie
-      module _ (l : Limited net) (weights driven : List ℕ) (w : WeightsFrom net 0 weights) (d : DrivenFrom net x₀ x₀ 0 driven) where
+      module _ (l : InLimits net) (weights driven : List ℕ) (w : WeightsFrom net 0 weights) (d : DrivenFrom net x₀ x₀ 0 driven) where
         here : at (set upstream p v) p ≡ v
         here = getD-set-same upstream p v 0 (omega (arith, i .known .long))
 
-        pub settle-asks : (at weights p ≤ 32640) × (v ≤ 443904000000) × (at driven p ≤ 12900000)
+        pub settle-asks : (at weights p ≤ 32640) × (v ≤ 496128000000) × (at driven p ≤ 13700000)
         settle-asks = rw here at (figures-small net o l weights (set upstream p v) x w (i .swept .approaching .allowed) p (at driven p) few known-more (drives-yet driven d))
 
         pub settle-finds : (r : Ends) → Settled net (at weights p) v p (at driven p) r → EndsAt net x p r
@@ -115,13 +111,13 @@ module _ (net : Net) (o : Ordered net) (s : Side) (x₀ : List ℕ) where
             settled-ends net o l weights (set upstream p v) x w (i .swept .approaching .allowed) p (at driven p) few known-more (drives-yet driven d) r (rw here t)
 
       -- the end that is taken from s is put
-      pub sweeping-step : (r : Ends) (b : ℕ) → EndsAt net x p r → b ≡ endFrom s r
+      pub sweeping-step : (r : Ends) (b : ℕ) → Submodular (allowedBy net) (delayBy net) → EndsAt net x p r → b ≡ endFrom s r
           → Sweeping net s x₀ (p + 1) (set x p b) (set upstream p v) (changed || not (eqb b (at x p)))
       unfolding within
-      sweeping-step r b f g =
+      sweeping-step r b sub f g =
           record {
             upTo = omega arith;
-            swept = swept-step (allowed-lattice net) (delay-submodular net o) s x₀ x p b changed (i .swept) few (g ∙ f .ends s);
+            swept = swept-step (driving-lattice net) sub s x₀ x p b changed (i .swept) few (g ∙ f .ends s);
             known = let z : suc p ≡ p + 1 = omega arith in rw z at (upstream-reads net o x (set x p b) (set upstream p v) (suc p) (λ a l. sym (elsewhere a (λ h. omega arith))) known-more);
             later = λ q l m. elsewhere q (λ h. omega arith) ∙ i .later q (omega arith) m;
           }

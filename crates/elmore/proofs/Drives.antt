@@ -8,11 +8,9 @@ use Rattle.lattice.specs.Lists.{at, sum}
 use Rattle.net.specs.declared.Counts.{Counts}
 use Rattle.net.specs.Job.{widthsOf, segmentLayer}
 use Rattle.net.specs.Net.{Net, netBy}
-use Rattle.net.specs.Delay.{stageLoad, stageDelay}
-use Rattle.net.specs.Segments.{stageCharge}
 use Rattle.net.proofs.Sum.{sum-suc}
 use Rattle.net.proofs.Questions.{ordered, limited}
-use Rattle.net.proofs.Bound.{stages-bounded, stageCharge-small, stageDelay-small}
+use Rattle.net.proofs.Bound.{stages-bounded}
 use Rattle.elmore.specs.Ready.{Ready}
 
 -- a stage after those before it, by f: what each contributes, or what each charges
@@ -28,21 +26,6 @@ module _ {c : Counts} {job x : List ℕ} (r : Ready c job x) where
 
   pub width-held : (i : ℕ) → i < c .segments → at x (c .stages + i) < widthsOf c (segmentLayer c job i)
   width-held i l = omega (arith, r .checked .wired i l, r .inRanges .high (c .stages + i) (omega arith))
-
-  -- a stage of the size k, with the output capacitance o, that drives the load d
-  module _ (s k o d : ℕ) (h : s < c .stages) (e : k ≡ at x s) (f : o ≡ net .output k) (g : d ≡ stageLoad net x s) where
-    pub stage-charged : o + d ≡ stageCharge net x s
-    stage-charged = rw (f, e, g)
-
-    pub charge-small : o + d ≤ 12900000
-    charge-small = omega (arith, stage-charged, stageCharge-small net (ordered (r .checked)) (limited (r .checked)) x (r .inRanges) s h)
-
-    pub stage-is : (a b : ℕ) → a ≡ net .driverResistance k → b ≡ o + d → a * b ≡ stageDelay net x s
-    stage-is a b i j = rw (i, j, f, e, g)
-
-    pub stage-room : (a b : ℕ) → a ≡ net .driverResistance k → b ≡ o + d → a * b < 2 ^ 63
-    stage-room a b i j =
-        let t = stageDelay-small net (ordered (r .checked)) (limited (r .checked)) x (r .inRanges) s h in rw (stage-is a b i j) (omega arith)
 
   -- a stage after those before it, where each has at most b
   pub stages-room : (f : ℕ → ℕ) (s t d : ℕ) → t ≡ sum s f → d ≡ f s → (b : ℕ) → ((i : ℕ) → i < c .stages → f i ≤ b) → s < c .stages → 4 * b < 2 ^ 63 → t + d < 2 ^ 63

@@ -1,2 +1,4 @@
 pub mod Drives
+pub mod Repeating
+pub mod Seating
 pub mod Tallies

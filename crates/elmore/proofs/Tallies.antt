@@ -1,41 +1,52 @@
 -- The steps of the recursion over the tree: that each sum is below 2 ^ 63, and that it is what the definitions say.
-use mathlib.Core.Path.{_≡_, sym, _∙_}
+use mathlib.Core.Path.{_≡_, refl, sym, ap, _∙_}
+use mathlib.Core.Bool.{Bool, true, false}
 use mathlib.Core.List.{List}
-use Prim.Native.Nat.{ℕ, suc, _+_, _*_, _-_, _^_, _≤_, _<_}
+use Prim.Native.Nat.{ℕ, zero, suc, _+_, _*_, _-_, _^_, _≤_, _<_}
+use native.Mathlib.Nat.{zero-add, add-zero, add-suc, suc-add, mul-le-mul-right}
 use native.Mathlib.Numerals.{add-one}
 use native.Mathlib.Omega.{arith}
+use borrow.Author.Tests.{ne-eqb}
+use Rattle.lattice.specs.Lists.{sum}
 use Rattle.net.specs.declared.Counts.{Counts}
 use Rattle.net.specs.Net.{Net, netBy}
-use Rattle.net.specs.Delay.{branches, branch, ownLoad, segmentDelay, stagesDelay, delay}
-use Rattle.net.specs.Segments.{weightBelow, ownDelay}
+use Rattle.net.specs.Delay.{repeated, atRepeater, loadUnder, segmentDelay, stagesDelay, delay, loadFigure}
+use Rattle.net.specs.Delay as net-delay
+use Rattle.net.specs.Segments.{forest, weightBelow, ownDelay, ownRepeaterDelay, stageCharge, repeaterCharge}
 use Rattle.net.specs.Checked.{Ordered, Limited, InRanges}
-use Rattle.net.proofs.Questions.{ordered, limited}
-use Rattle.net.proofs.Bound.{forest-bounded, branches-bounded, weightBelow-small, ownLoad-small, charged-small, segmentDelay-small, ownDelay-small, driven-small}
-use Rattle.net.proofs.Exchange.{delay-inside}
+use Rattle.net.proofs.Sum.{sum-zero, sum-part, sum-add, sum-bounded}
+use Rattle.net.proofs.Branches.{branches-are}
+use Rattle.net.proofs.Order.{repeated-one, repeated-none}
+use Rattle.net.proofs.Questions.{ordered, limited, checked-charged}
+use Rattle.net.proofs.Charged.{charged-whole}
+use Rattle.net.proofs.Bound.{branches-most, branches-bounded, stages-bounded, weightBelow-small, branchesLoad-small, charged-small, segmentDelay-small, ownDelay-small, repeaterCharge-small, ownRepeaterDelay-small, stageCharge-small, driven-small}
+use Rattle.net.proofs.Exchange.{repeaters-whole, delay-inside}
 use Rattle.links.specs.Links.{First, siblings}
 use Rattle.links.proofs.Siblings.{siblings-none, siblings-branches, siblings-step}
 use Rattle.elmore.specs.declared.Segment.{Segment}
 use Rattle.elmore.specs.declared.Part.{Part}
 use Rattle.elmore.specs.Ready.{Ready}
 use Rattle.elmore.specs.Step.{Fields, Empty, lag, under, RoomBehind, Behind, RoomJoined, Joined}
-use Rattle.elmore.specs.Tally.{Tally}
+use Rattle.elmore.specs.Tally.{branchesOf, branchOf, weightWith, loadWith, chargedWith, delayWith, Tally, Hanging}
 
 -- past the last segment
 pub none-tally : {net : Net} {x : List ℕ} (j : ℕ) → j ≡ net .segments → (r : Part) → Empty r → Tally net x siblings j r
 none-tally {net} {x} j e r n =
     record {
-      weight = n .weight ∙ sym (siblings-none net (net .weight) j e);
-      load = n .load ∙ sym (siblings-none net (ownLoad net x) j e);
-      delay = n .delay ∙ sym (siblings-none net (ownDelay net x) j e);
+      weight = n .weight ∙ sym (siblings-none net (weightWith net x) j e);
+      load = n .load ∙ sym (siblings-none net (loadWith net x) j e);
+      charged = n .charged ∙ sym (siblings-none net (chargedWith net x) j e);
+      delay = n .delay ∙ sym (siblings-none net (delayWith net x) j e);
     }
 
 -- r is counted up over the siblings from j on that stand before i: with those from i on it is all of them.
 pub record Passed (net : Net) (x : List ℕ) (j i : ℕ) (r : Part) : Type 0 where
   pub from : j ≤ i
   pub within : i ≤ net .segments
-  pub weight : r .weight + siblings net (net .weight) i ≡ siblings net (net .weight) j
-  pub load : r .load .0 + siblings net (ownLoad net x) i ≡ siblings net (ownLoad net x) j
-  pub delay : r .delay .0 + siblings net (ownDelay net x) i ≡ siblings net (ownDelay net x) j
+  pub weight : r .weight + siblings net (weightWith net x) i ≡ siblings net (weightWith net x) j
+  pub load : r .load .0 + siblings net (loadWith net x) i ≡ siblings net (loadWith net x) j
+  pub charged : r .charged .0 + siblings net (chargedWith net x) i ≡ siblings net (chargedWith net x) j
+  pub delay : r .delay .0 + siblings net (delayWith net x) i ≡ siblings net (delayWith net x) j
 
 -- at first none is passed
 pub passed-none : {net : Net} {x : List ℕ} (j : ℕ) → j ≤ net .segments → (r : Part) → Empty r → Passed net x j j r
@@ -45,6 +56,7 @@ passed-none {net} {x} j h r n =
       within = h;
       weight = omega (arith, n .weight);
       load = omega (arith, n .load);
+      charged = omega (arith, n .charged);
       delay = omega (arith, n .delay);
     }
 
@@ -53,10 +65,17 @@ pub passed-all : {net : Net} {x : List ℕ} (j i : ℕ) → net .segments ≤ i 
 passed-all {net} {x} j i h r p =
     let e : i ≡ net .segments = omega (arith, p .within) in
     record {
-      weight = omega (arith, p .weight, siblings-none net (net .weight) i e);
-      load = omega (arith, p .load, siblings-none net (ownLoad net x) i e);
-      delay = omega (arith, p .delay, siblings-none net (ownDelay net x) i e);
+      weight = omega (arith, p .weight, siblings-none net (weightWith net x) i e);
+      load = omega (arith, p .load, siblings-none net (loadWith net x) i e);
+      charged = omega (arith, p .charged, siblings-none net (chargedWith net x) i e);
+      delay = omega (arith, p .delay, siblings-none net (delayWith net x) i e);
     }
+
+-- what hangs at a node from a later segment on is a part of what hangs there
+forest-later : (parent : ℕ → ℕ) (has : ℕ → ℕ → ℕ) (k d q j : ℕ) → forest parent has d q (k + j) ≤ forest parent has (k + d) q j
+unfolding forest
+forest-later parent has zero d q j = rw (zero-add d, zero-add j) (omega arith)
+forest-later parent has (suc k) d q j = rw (suc-add k d, suc-add k j, ← add-suc k j) (omega (arith, forest-later parent has k d q (suc j)))
 
 module _ {c : Counts} {job x : List ℕ} (ready : Ready c job x) where
   abbrev net : Net
@@ -72,60 +91,136 @@ module _ {c : Counts} {job x : List ℕ} (ready : Ready c job x) where
   a = ready .inRanges
 
   -- the first segment at a node and its siblings are the branches there
-  pub node-tally : (q i : ℕ) (u : Part) → q ≤ net .segments → First net q 0 i → Tally net x siblings i u → Tally net x branches q u
+  pub node-tally : (q i : ℕ) (u : Part) → q ≤ net .segments → First net q 0 i → Tally net x siblings i u → Tally net x branchesOf q u
   node-tally q i u h f t =
       record {
-        weight = t .weight ∙ sym (siblings-branches net (o .parents) (net .weight) q i h f);
-        load = t .load ∙ sym (siblings-branches net (o .parents) (ownLoad net x) q i h f);
-        delay = t .delay ∙ sym (siblings-branches net (o .parents) (ownDelay net x) q i h f);
+        weight = t .weight ∙ sym (siblings-branches net (o .parents) (weightWith net x) q i h f);
+        load = t .load ∙ sym (siblings-branches net (o .parents) (loadWith net x) q i h f);
+        charged = t .charged ∙ sym (siblings-branches net (o .parents) (chargedWith net x) q i h f);
+        delay = t .delay ∙ sym (siblings-branches net (o .parents) (delayWith net x) q i h f);
       }
 
-  -- what segments own is at most b
-  siblings-bounded : (b : ℕ) {own : ℕ → ℕ} → ((i : ℕ) → i < net .segments → own i ≤ b) → (j : ℕ) → j < net .segments → siblings net own j ≤ 64 * b
-  siblings-bounded b h j m = forest-bounded net o l b h (net .segments - j) (net .parent j) j (omega arith) (o .parents j m)
+  -- what a segment and its repeater add to the delay
+  abbrev own : ℕ → ℕ
+  own i = ownDelay net x i + atRepeater net (ownRepeaterDelay net x) i
 
-  module _ (i child : ℕ) (h : i < net .segments) (first : First net (i + 1) 0 child) (s : Segment) (u : Part) (f : Fields net x i s) (v : Tally net x siblings child u) where
-    t : Tally net x branches (suc i) u
-    t = rw add-one at (node-tally (i + 1) child u (omega arith) first v)
+  -- all of it, 64 × 45,581,250,000,000,000 + 8 × 44,716,800,000,000,000: a branch is below twice that
+  own-small : sum (net .segments) own ≤ 3274934400000000000
+  own-small =
+      omega (
+        arith,
+        sum-add (net .segments) (ownDelay net x) (atRepeater net (ownRepeaterDelay net x)),
+        sum-bounded (net .segments) 45581250000000000 (ownDelay net x) (ownDelay-small net o l x a),
+        mul-le-mul-right 45581250000000000 (l .segments),
+        repeaters-whole net (o .parents) (o .sites) (ownRepeaterDelay net x),
+        sum-bounded (net .repeaters) 44716800000000000 (ownRepeaterDelay net x) (ownRepeaterDelay-small net o l x a),
+        mul-le-mul-right 44716800000000000 (l .repeaters),
+      )
 
+  pub inside-small : (q : ℕ) → q ≤ net .segments → branchesOf net (delayWith net x) q ≤ 3274934400000000000
+  inside-small q h = omega (arith, branches-most net o l (delayWith net x) own (λ i m k. omega arith) q h, own-small)
+
+  -- eight repeaters charge at most 13,700,000 each
+  pub charged-most : (q : ℕ) → q ≤ net .segments → branchesOf net (chargedWith net x) q ≤ 109600000
+  charged-most q h =
+      omega (
+        arith,
+        branches-most net o l (chargedWith net x) (atRepeater net (repeaterCharge net x)) (λ i m k. omega arith) q h,
+        repeaters-whole net (o .parents) (o .sites) (repeaterCharge net x),
+        sum-bounded (net .repeaters) 13700000 (repeaterCharge net x) (repeaterCharge-small net o l x a),
+        mul-le-mul-right 13700000 (l .repeaters),
+      )
+
+  -- the siblings from one on are among the branches at their node
+  siblings-most : (has : ℕ → ℕ → ℕ) (j : ℕ) → j < net .segments → siblings net has j ≤ branchesOf net has (net .parent j)
+  siblings-most has j m =
+      let e : j + (net .segments - j) ≡ net .segments = omega arith in
+      let k = forest-later (net .parent) has j (net .segments - j) (net .parent j) 0 in
+      rw (branches-are net (o .parents) has (net .parent j) (omega (arith, o .parents j m))) (rw (e, add-zero j) at k)
+
+  -- where no repeater sits at the far end of segment i
+  none-there : (i : ℕ) → repeated net i ≡ false → (f : ℕ → ℕ) → atRepeater net f i ≡ 0
+  unfolding atRepeater
+  none-there i e f = sum-zero (net .repeaters) _ (λ r h. rw (ne-eqb (net .site r) i (repeated-none net i e r h)))
+
+  pub bare-hanging : (i : ℕ) (u : Part) → repeated net i ≡ false → Tally net x branchesOf (suc i) u → Hanging net x i u
+  unfolding net-delay.under
+  bare-hanging i u e t =
+      record {
+        weight = omega (arith, t .weight);
+        load = rw e (omega (arith, t .load));
+        charged = omega (arith, t .charged, none-there i e (repeaterCharge net x));
+        delay = omega (arith, t .delay, none-there i e (ownRepeaterDelay net x));
+      }
+
+  module _ (i child : ℕ) (h : i < net .segments) (first : First net (i + 1) 0 child) (u : Part) (v : Tally net x siblings child u) where
+    pub below-tally : Tally net x branchesOf (suc i) u
+    below-tally = rw add-one at (node-tally (i + 1) child u (omega arith) first v)
+
+    -- a segment without branches has no repeater
+    leaf-none : child ≡ net .segments → repeated net i ≡ false
+    leaf-none e = go (repeated net i) refl
+      where
+        go : (b : Bool) → repeated net i ≡ b → b ≡ false
+        go false f = refl
+        go true f =
+            let k = repeated-one net i f in
+            let b = ready .checked .branched (k .0) (k .1) in
+            absurd (first .none (b .0) (omega arith) (omega (arith, b .1)) (b .2 ∙ ap suc (k .2) ∙ sym (add-one i)))
+
+    pub leaf-hanging : child ≡ net .segments → Hanging net x i u
+    leaf-hanging e = bare-hanging i u (leaf-none e) below-tally
+
+  module _ (i : ℕ) (h : i < net .segments) (s : Segment) (u : Part) (f : Fields net x i s) (v : Hanging net x i u) where
     weight-is : s .weight + u .weight ≡ weightBelow net i
     unfolding weightBelow
-    weight-is = cc (t .weight)
+    weight-is = omega (arith, f .weight, v .weight)
+
+    under-is : under s u ≡ loadUnder net x i
+    under-is = omega (arith, f .sink, v .load)
 
     lag-is : lag (s .wire) (under s u) ≡ segmentDelay net x i
     unfolding segmentDelay
-    lag-is = cc (t .load)
+    lag-is = cc under-is
 
     pub behind-room : RoomBehind s u
     behind-room =
         record {
           weight = omega (arith, weight-is, weightBelow-small net o l i h);
           wire = record {
-            charged = omega (arith, t .load, f .wire .capacitance, charged-small net o l x a i h);
+            charged = omega (arith, under-is, f .wire .capacitance, charged-small net o l x a i h);
             lagged = omega (arith, lag-is, segmentDelay-small net o l x a i h);
           };
-          delay = rw (weight-is, lag-is) (omega (arith, t .delay, ownDelay-small net o l x a i h, branches-bounded net o l _ (ownDelay-small net o l x a) (suc i) h));
+          delay = rw (weight-is, lag-is) (omega (arith, v .delay, sum-part (net .segments) own i h, own-small, inside-small (suc i) h));
         }
 
-    pub behind-tally : (r : Part) → Behind s u r → Tally net x branch i r
+    pub behind-tally : (r : Part) → Behind s u r → Tally net x branchOf i r
     behind-tally r b =
         record {
-          weight = omega (arith, t .weight);
-          load = omega (arith, t .load, f .wire .capacitance);
-          delay = b .delay ∙ rw (weight-is, lag-is, t .delay);
+          weight = omega (arith, b .weight, f .weight, v .weight);
+          load = omega (arith, b .load, under-is, f .wire .capacitance);
+          charged = b .charged ∙ v .charged;
+          delay = b .delay ∙ rw (weight-is, lag-is) (v .delay);
         }
 
   -- one more sibling: i joins what is passed, and k is the next
-  module _ (j i k : ℕ) (h : i < net .segments) (f : First net (net .parent i) (suc i) k) (b d : Part) (p : Passed net x j i b) (t : Tally net x branch i d) where
+  module _ (j i k : ℕ) (h : i < net .segments) (f : First net (net .parent i) (suc i) k) (b d : Part) (p : Passed net x j i b) (t : Tally net x branchOf i d) where
     m : j < net .segments
     m = omega (arith, p .from)
+
+    n : net .parent j ≤ net .segments
+    n = omega (arith, o .parents j m)
+
+    step : (has : ℕ → ℕ → ℕ) → siblings net has i ≡ branchOf net has i + siblings net has k
+    step has = siblings-step net (o .parents) has i k h f
 
     pub joined-room : RoomJoined b d
     joined-room =
         record {
-          weight = omega (arith, p .weight, t .weight, siblings-step net (o .parents) (net .weight) i k h f, siblings-bounded 255 (l .weights) j m);
-          load = omega (arith, p .load, t .load, siblings-step net (o .parents) (ownLoad net x) i k h f, siblings-bounded _ (ownLoad-small net o l x a) j m);
-          delay = omega (arith, p .delay, t .delay, siblings-step net (o .parents) (ownDelay net x) i k h f, siblings-bounded _ (ownDelay-small net o l x a) j m);
+          weight = omega (arith, p .weight, t .weight, step (weightWith net x), siblings-most (weightWith net x) j m, branches-bounded net o l 255 (l .weights) (net .parent j) n);
+          load = omega (arith, p .load, t .load, step (loadWith net x), siblings-most (loadWith net x) j m, branchesLoad-small net o l x a (net .parent j) n);
+          charged = omega (arith, p .charged, t .charged, step (chargedWith net x), siblings-most (chargedWith net x) j m, charged-most (net .parent j) n);
+          delay = omega (arith, p .delay, t .delay, step (delayWith net x), siblings-most (delayWith net x) j m, inside-small (net .parent j) n);
         }
 
     pub joined-passed : (r : Part) → Joined b d r → Passed net x j k r
@@ -133,15 +228,26 @@ module _ {c : Counts} {job x : List ℕ} (ready : Ready c job x) where
         record {
           from = omega (arith, p .from, f .from);
           within = f .within;
-          weight = omega (arith, p .weight, t .weight, e .weight, siblings-step net (o .parents) (net .weight) i k h f);
-          load = omega (arith, p .load, t .load, e .load, siblings-step net (o .parents) (ownLoad net x) i k h f);
-          delay = omega (arith, p .delay, t .delay, e .delay, siblings-step net (o .parents) (ownDelay net x) i k h f);
+          weight = omega (arith, p .weight, t .weight, e .weight, step (weightWith net x));
+          load = omega (arith, p .load, t .load, e .load, step (loadWith net x));
+          charged = omega (arith, p .charged, t .charged, e .charged, step (chargedWith net x));
+          delay = omega (arith, p .delay, t .delay, e .delay, step (delayWith net x));
         }
 
-  -- the whole tree, behind stages that contribute d
-  module _ (tree : Part) (t : Tally net x branches 0 tree) (d : ℕ) (e : d ≡ stagesDelay net x) where
-    pub whole-driven : tree .weight * (2 * d) < 2 ^ 63
-    whole-driven = rw (t .weight, e) (omega (arith, driven-small net o l x a))
+  -- the whole tree
+  module _ (tree : Part) (t : Tally net x branchesOf 0 tree) where
+    -- behind stages that contribute d
+    module _ (d : ℕ) (e : d ≡ stagesDelay net x) where
+      pub whole-driven : tree .weight * (2 * d) < 2 ^ 63
+      whole-driven = rw (t .weight, e) (omega (arith, driven-small net o l x a))
 
-    pub whole-delay : tree .weight * (2 * d) + tree .delay .0 ≡ delay net x
-    whole-delay = rw (t .weight, t .delay, e) (sym (delay-inside net (o .parents) x))
+      pub whole-delay : tree .weight * (2 * d) + tree .delay .0 ≡ delay net x
+      whole-delay = rw (t .weight, t .delay, e) (sym (delay-inside net (o .parents) (o .sites) x))
+
+    -- and that charge d
+    module _ (d : ℕ) (e : d ≡ sum (net .stages) (stageCharge net x)) where
+      pub figure-room : d + tree .charged .0 < 2 ^ 63
+      figure-room = omega (arith, stages-bounded net o l 13700000 (stageCharge-small net o l x a) (net .stages) (omega arith), t .charged, charged-most 0 (omega arith))
+
+      pub whole-figure : d + tree .charged .0 ≡ loadFigure net x
+      whole-figure = omega (arith, t .charged, charged-whole net x o, checked-charged (ready .checked) x)

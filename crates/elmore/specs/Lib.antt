@@ -1,3 +1,4 @@
 pub mod Ready
+pub mod Seats
 pub mod Step
 pub mod Tally

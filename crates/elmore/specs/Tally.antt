@@ -1,24 +1,57 @@
 -- What is counted up over a part of the tree, over the stages, and of a whole sizing.
 use mathlib.Core.Path.{_≡_}
 use mathlib.Core.List.{List}
-use Prim.Native.Nat.{ℕ}
+use Prim.Native.Nat.{ℕ, suc, _+_, _*_}
 use Rattle.lattice.specs.Lists.{sum}
 use Rattle.net.specs.Net.{Net}
-use Rattle.net.specs.Delay.{ownLoad, stageDelay, stagesDelay, delay, loadFigure}
-use Rattle.net.specs.Segments.{ownDelay, stageCharge}
+use Rattle.net.specs.Delay.{branchesTo, atRepeater, capacitance, ownLoad, under, stageDelay, stagesDelay, delay, loadFigure}
+use Rattle.net.specs.Segments.{ownDelay, ownRepeaterDelay, stageCharge, repeaterCharge}
 use Rattle.elmore.specs.declared.Part.{Part}
 use Rattle.elmore.specs.declared.DelayAndLoad.{DelayAndLoad}
 
--- r has the weight, the load and the scaled delay of a part of the tree: `branch`, `siblings` or `branches`, at i.
-pub record Tally (net : Net) (x : List ℕ) (part : Net → (ℕ → ℕ) → ℕ → ℕ) (i : ℕ) (r : Part) : Type 0 where
-  pub weight : r .weight ≡ part net (net .weight) i
-  pub load : r .load .0 ≡ part net (ownLoad net x) i
-  pub delay : r .delay .0 ≡ part net (ownDelay net x) i
+-- Parts of the tree: the branches at the node q, and the branch of segment i, where `has i l` is what it has with l in its own branches.
+abbrev pub branchesOf : Net → (ℕ → ℕ → ℕ) → ℕ → ℕ
+branchesOf net has q = branchesTo (net .segments) (net .parent) has (net .segments) q
+
+abbrev pub branchOf : Net → (ℕ → ℕ → ℕ) → ℕ → ℕ
+branchOf net has i = has i (branchesOf net has (suc i))
+
+module _ (net : Net) (x : List ℕ) where
+  -- What is counted up: the weight of the sinks, the load, what the repeaters charge, and the scaled delay that arises inside.
+  abbrev pub weightWith : ℕ → ℕ → ℕ
+  weightWith i l = net .weight i + l
+
+  abbrev pub loadWith : ℕ → ℕ → ℕ
+  loadWith i l = capacitance net x i + under net x i l
+
+  abbrev pub chargedWith : ℕ → ℕ → ℕ
+  chargedWith i l = atRepeater net (repeaterCharge net x) i + l
+
+  abbrev pub delayWith : ℕ → ℕ → ℕ
+  delayWith i l = ownDelay net x i + atRepeater net (ownRepeaterDelay net x) i + l
+
+  -- r has them of a part of the tree: `branchOf`, `siblings` or `branchesOf`, at i.
+  pub record Tally (part : Net → (ℕ → ℕ → ℕ) → ℕ → ℕ) (i : ℕ) (r : Part) : Type 0 where
+    pub weight : r .weight ≡ part net weightWith i
+    pub load : r .load .0 ≡ part net loadWith i
+    pub charged : r .charged .0 ≡ part net chargedWith i
+    pub delay : r .delay .0 ≡ part net delayWith i
+
+  -- r is what hangs at the far end of segment i, behind the repeater if one sits there: with what the segment owns it is the segment's branch.
+  pub record Hanging (i : ℕ) (r : Part) : Type 0 where
+    pub weight : net .weight i + r .weight ≡ branchOf net weightWith i
+    pub load : ownLoad net x i + r .load .0 ≡ branchOf net loadWith i
+    pub charged : r .charged .0 ≡ branchOf net chargedWith i
+    pub delay : ownDelay net x i + r .delay .0 ≡ branchOf net delayWith i
 
 -- r has the delay d and the load l.
 pub record Has (d l : ℕ) (r : DelayAndLoad) : Type 0 where
   pub delay : r .delay .0 ≡ d
   pub load : r .load .0 ≡ l
+
+-- r has what a driver of the size k contributes to every sink behind it, and what it charges, where it drives the load l.
+abbrev pub DriverOf : Net → ℕ → ℕ → DelayAndLoad → Type 0
+DriverOf net k l = Has (net .driverResistance k * (net .output k + l)) (net .output k + l)
 
 -- r has what stage s contributes to every sink, and what it charges.
 abbrev pub StageOf : Net → List ℕ → ℕ → DelayAndLoad → Type 0

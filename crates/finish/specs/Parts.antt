@@ -6,20 +6,23 @@ use Prim.Native.Nat.{ℕ}
 use lib.Dec.{eqb}
 use lib.ListN.{drop}
 use Rattle.net.specs.declared.Counts.{Counts}
+use Rattle.lattice.specs.Least as least
+use Rattle.lattice.specs.Refine as refining
 use Rattle.net.specs.Net.{Net, netBy}
-use Rattle.net.specs.Sizings.{leastDelay, lean, wide, lowerBound, upperBound}
+use Rattle.net.specs.Driving.{Driving, allowedBy, delayBy}
+use Rattle.net.specs.Order.{drivingBy}
 use Rattle.net.specs.Answers.{replyLength, finishedReply, boundsReply}
 
--- Both bounds of a net.
-pub record Bounded (net : Net) (lower upper : List ℕ) : Type 0 where
-  pub isLower : lower ≡ lowerBound net
-  pub isUpper : upper ≡ upperBound net
+-- Both bounds of a net, by position.
+pub record Bounded (net : Driving) (lower upper : List ℕ) : Type 0 where
+  pub isLower : lower ≡ refining.lower (allowedBy net) (delayBy net)
+  pub isUpper : upper ≡ refining.upper (allowedBy net) (delayBy net)
 
--- The least delay, lean and wide of a net.
-pub record LeastOf (net : Net) (d : ℕ) (l w : List ℕ) : Type 0 where
-  pub isLeast : d ≡ leastDelay net
-  pub isLean : l ≡ lean net
-  pub isWide : w ≡ wide net
+-- The least delay, lean and wide of a net, by position.
+pub record LeastOf (net : Driving) (d : ℕ) (l w : List ℕ) : Type 0 where
+  pub isLeast : d ≡ least.leastDelay (allowedBy net) (delayBy net)
+  pub isLean : l ≡ least.lean (allowedBy net) (delayBy net)
+  pub isWide : w ≡ least.wide (allowedBy net) (delayBy net)
 
 -- The buffer after the number n.
 unfoldable pub bufferFrom : Net → ℕ → List ℕ → List ℕ
@@ -29,10 +32,10 @@ bufferFrom net n before =
 -- The same of the net of a job, by the counts of its records and its bytes.
 module _ (c : Counts) (b : List ℕ) where
   abbrev pub BoundedBy : (lower upper : List ℕ) → Type 0
-  BoundedBy lower upper = Bounded (netBy c b) lower upper
+  BoundedBy lower upper = Bounded (drivingBy c b) lower upper
 
   abbrev pub LeastBy : ℕ → (l w : List ℕ) → Type 0
-  LeastBy d l w = LeastOf (netBy c b) d l w
+  LeastBy d l w = LeastOf (drivingBy c b) d l w
 
   abbrev pub bufferBy : ℕ → List ℕ → List ℕ
   bufferBy n before = bufferFrom (netBy c b) n before

@@ -1,4 +1,4 @@
-// The finished reply: the search between the bounds finds the least delay, lean and wide, and they are written.
+// The finished reply: the search between the bounds finds the least delay, lean and wide, and they are written. Bounds and sizings go by position.
 use net::Counts;
 use quantity::Delay;
 ghost use mathlib.Core.Path.{_≡_};
@@ -6,6 +6,7 @@ ghost use Prim.Native.Nat.{suc, _*_, _≤_};
 ghost use lib.ListN.{length};
 ghost use Rattle.net.specs.Job.{placesBy};
 ghost use Rattle.net.specs.Checked.{Checked, ForPlaces};
+ghost use Rattle.positions.specs.Arranged.{PlacesInOrder, PositionsOf, NodesOf};
 ghost use Rattle.place.specs.ByCounts.{Weighed};
 ghost use Rattle.finish.specs.Parts.{BoundedBy, LeastBy, bufferBy};
 
@@ -13,7 +14,9 @@ ghost use Rattle.finish.specs.Parts.{BoundedBy, LeastBy, bufferBy};
 fn least(
     job: &[u8],
     counts: Counts,
-    weights: &[u64; 68],
+    order: &[usize; 76],
+    hangs: &[usize; 76],
+    weights: &[u64; 76],
     lower: &[u8],
     upper: &[u8],
     x: &mut [u8],
@@ -21,6 +24,8 @@ fn least(
     wide: &mut [u8],
 ) -> Delay
     requires { ⌜ Checked counts (now job) ⌝ }
+    requires { ⌜ PlacesInOrder counts (now job) (now order) ⌝ }
+    requires { ⌜ NodesOf counts (now job) (now hangs) ⌝ }
     requires { ⌜ Weighed counts (now job) (now weights) ⌝ }
     requires { ⌜ BoundedBy counts (now job) (now lower) (now upper) ⌝ }
     requires { ⌜ (length (now lower) ≡ length (now x)) × ForPlaces counts (now lean) × ForPlaces counts (now wide) ⌝ }
@@ -30,6 +35,8 @@ fn least(
     search::between(
         job,
         counts,
+        order,
+        hangs,
         weights,
         lower,
         upper,
@@ -44,7 +51,10 @@ fn least(
 fn find_and_write(
     job: &[u8],
     counts: Counts,
-    weights: &[u64; 68],
+    order: &[usize; 76],
+    position: &[usize; 76],
+    hangs: &[usize; 76],
+    weights: &[u64; 76],
     lower: &[u8],
     upper: &[u8],
     x: &mut [u8],
@@ -53,38 +63,61 @@ fn find_and_write(
     reply: &mut [u8],
 )
     requires { ⌜ Checked counts (now job) ⌝ }
+    requires { ⌜ PlacesInOrder counts (now job) (now order) ⌝ }
+    requires { ⌜ PositionsOf counts (now job) (now position) ⌝ }
+    requires { ⌜ NodesOf counts (now job) (now hangs) ⌝ }
     requires { ⌜ Weighed counts (now job) (now weights) ⌝ }
     requires { ⌜ BoundedBy counts (now job) (now lower) (now upper) ⌝ }
     requires { ⌜ ForPlaces counts (now x) × ForPlaces counts (now lean) × ForPlaces counts (now wide) ⌝ }
     requires { ⌜ 8 * suc (placesBy counts) ≤ length (now reply) ⌝ }
     ensures { λ r. ⌜ now (reply .exit) ≡ bufferBy counts (now (job .entry)) 0 (now (reply .entry)) ⌝ }
 {
-    let delay = least(job, counts, weights, lower, upper, x, lean, wide);
-    reply::finished(reply, delay, lower, upper, lean, wide);
+    let delay = least(
+        job,
+        counts,
+        order,
+        hangs,
+        weights,
+        lower,
+        upper,
+        x,
+        lean,
+        wide,
+    );
+    reply::finished(reply, delay, position, lower, upper, lean, wide);
 }
 
 // Writes the finished reply.
 pub fn finish(
     job: &[u8],
     counts: Counts,
-    weights: &[u64; 68],
+    order: &[usize; 76],
+    position: &[usize; 76],
+    hangs: &[usize; 76],
+    weights: &[u64; 76],
     lower: &[u8],
     upper: &[u8],
     reply: &mut [u8],
 )
     requires { ⌜ Checked counts (now job) ⌝ }
+    requires { ⌜ PlacesInOrder counts (now job) (now order) ⌝ }
+    requires { ⌜ PositionsOf counts (now job) (now position) ⌝ }
+    requires { ⌜ NodesOf counts (now job) (now hangs) ⌝ }
     requires { ⌜ Weighed counts (now job) (now weights) ⌝ }
     requires { ⌜ BoundedBy counts (now job) (now lower) (now upper) ⌝ }
     requires { ⌜ 8 * suc (placesBy counts) ≤ length (now reply) ⌝ }
     ensures { λ r. ⌜ now (reply .exit) ≡ bufferBy counts (now (job .entry)) 0 (now (reply .entry)) ⌝ }
 {
-    let places = counts.stages + counts.segments;
-    let mut x = [0u8; 68];
-    let mut lean = [0u8; 68];
-    let mut wide = [0u8; 68];
+    let places = counts.stages + counts.segments + counts.repeaters;
+    let mut x = [0u8; 76];
+    let mut lean = [0u8; 76];
+    let mut wide = [0u8; 76];
     find_and_write(
         job,
         counts,
+        order,
+        position,
+        hangs,
         weights,
         lower,
         upper,

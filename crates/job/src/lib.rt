@@ -10,7 +10,7 @@ ghost use Rattle.net.specs.Job.{byte, word, widthAt, widthsOf, firstRow, sizeAt
 ghost use Rattle.net.specs.Net.{netBy};
 ghost use Rattle.net.specs.Checked.{Held};
 ghost use Rattle.job.specs.WireAt.{WireAt};
-ghost use Rattle.job.specs.Ranges.{rangeByte};
+ghost use Rattle.job.specs.Ranges.{RangeAt, driverAt};
 
 // A segment's wire at one of its widths.
 pub struct Wire {
@@ -194,16 +194,18 @@ pub fn output(job: &[u8], counts: Counts, k: usize) -> Capacitance
     Capacitance(size_word(job, counts, k, 12))
 }
 
-// A byte of place p's record that a stage has at one offset and a segment at another.
-fn range_byte(job: &[u8], counts: Counts, p: usize, in_stage: usize, in_segment: usize) -> u8
-    requires { ⌜ Held counts (now job) ⌝ }
-    requires { ⌜ (p < placesBy counts) × (in_stage < 16) × (in_segment < 16) ⌝ }
-    ensures { λ r. ⌜ r ≡ rangeByte counts (now (job .entry)) p in_stage in_segment ⌝ }
+// Where the range of place p stands in its record: the lowest index, and behind it the highest.
+pub fn range_at(counts: Counts, p: usize) -> usize
+    requires { ⌜ p < placesBy counts ⌝ }
+    ensures { λ r. ⌜ RangeAt counts p r ⌝ }
 {
     if p < counts.stages {
-        return place_byte(job, counts, p, in_stage);
+        return 2;
     }
-    place_byte(job, counts, p, in_segment)
+    if p - counts.stages < counts.segments {
+        return 13;
+    }
+    3
 }
 
 // The lowest index that place p may have.
@@ -212,7 +214,8 @@ pub fn lowest(job: &[u8], counts: Counts, p: usize) -> u8
     requires { ⌜ p < placesBy counts ⌝ }
     ensures { λ r. ⌜ r ≡ netBy counts (now (job .entry)) .lowest p ⌝ }
 {
-    range_byte(job, counts, p, 2, 13)
+    let at = range_at(counts, p);
+    place_byte(job, counts, p, at)
 }
 
 // The highest index that place p may have.
@@ -221,5 +224,25 @@ pub fn highest(job: &[u8], counts: Counts, p: usize) -> u8
     requires { ⌜ p < placesBy counts ⌝ }
     ensures { λ r. ⌜ r ≡ netBy counts (now (job .entry)) .highest p ⌝ }
 {
-    range_byte(job, counts, p, 3, 14)
+    let at = range_at(counts, p);
+    place_byte(job, counts, p, at + 1)
+}
+
+// The segment at whose far end repeater r sits.
+pub fn site(job: &[u8], counts: Counts, r: usize) -> usize
+    requires { ⌜ Held counts (now job) ⌝ }
+    requires { ⌜ r < counts .repeaters ⌝ }
+    ensures { λ s. ⌜ s ≡ netBy counts (now (job .entry)) .site r ⌝ }
+{
+    index(job[16 * (counts.widths + counts.sizes + (counts.stages + counts.segments + r)) + 2])
+}
+
+// Is place p a driver, and not a wire?
+pub fn is_driver(counts: Counts, p: usize) -> bool
+    ensures { λ r. ⌜ r ≡ driverAt counts p ⌝ }
+{
+    if p < counts.stages {
+        return true;
+    }
+    counts.segments <= p - counts.stages
 }

@@ -38,6 +38,6 @@ pub record Unlinked (n long : ℕ) (first : List ℕ) (q : ℕ) : Type 0 where
   pub same : length first ≡ long
   pub none : (k : ℕ) → k < q → getD first k 0 ≡ n
 
--- Segment j and its siblings after it, each with all below it, counted by what each segment owns: nothing where j is the number of segments.
-abbrev pub siblings : Net → (ℕ → ℕ) → ℕ → ℕ
-siblings net own j = forest (net .parent) own (net .segments - j) (net .parent j) j
+-- The branches of segment j and of its siblings after it, each by what it has with its own branches: nothing where j is the number of segments.
+abbrev pub siblings : Net → (ℕ → ℕ → ℕ) → ℕ → ℕ
+siblings net has j = forest (net .parent) has (net .segments - j) (net .parent j) j

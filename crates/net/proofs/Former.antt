@@ -13,7 +13,7 @@ use Rattle.lattice.specs.Lists.{at, every}
 use Rattle.lattice.proofs.ListLaws.{is-true, at-every, every-or}
 use Rattle.lattice.proofs.Every.{every-fails}
 use Rattle.net.specs.declared.Counts.{Counts}
-use Rattle.net.specs.Job.{countIf, countsOf, widthAt, widthsOf, firstRow, sizeAt, stageAt, segmentSink, sinkCapacitance, sinkWeight}
+use Rattle.net.specs.Job.{countIf, countsOf, widthAt, widthsOf, firstRow, sizeAt, stageAt, repeaterAt, segmentSink, sinkCapacitance, sinkWeight}
 use Rattle.net.specs.Net.{places, netOf}
 use Rattle.net.specs.Sizings.{lowerBound, upperBound, room}
 use Rattle.net.specs.Questions.{question1, question2, question24, question3, question4, zeros, question5, question6, question7, question8, question9, sinkOrZero, question10, Question, ask, firstNo, jobQuestions, refusal}
@@ -57,12 +57,13 @@ module _ (c : Counts) (b : List ℕ) where
       every (c .widths) (λ k. zeros c b (widthAt k + 3) 1 && zeros c b (widthAt k + 12) 4)
       && (every (c .sizes) (λ k. zeros c b (sizeAt c k + 2) 2)
       && (every (c .stages) (λ s. zeros c b (stageAt c s + 4) 12)
-      && every (c .segments) (sinkOrZero c b)))
+      && (every (c .repeaters) (λ r. zeros c b (repeaterAt c r + 5) 11)
+      && every (c .segments) (sinkOrZero c b))))
 
   -- it is question 5 and the clause
   clause : question5WithClause ≡ question5 c b && every (c .segments) (sinkOrZero c b)
   unfolding question5WithClause question5
-  clause = rw (and-assoc, and-assoc)
+  clause = rw (and-assoc, and-assoc, and-assoc)
 
 -- The questions of a job with the clause: that question in the place of question 5, the sixth.
 unfoldable pub questionsWithClause : List ℕ → List Question

@@ -1,3 +1,4 @@
+pub mod ARepeater
 pub mod Sum
 pub mod Forest
 pub mod Branches
@@ -7,7 +8,18 @@ pub mod Dominance
 pub mod Bound
 pub mod Places
 pub mod Records
+pub mod Driving
+pub mod Order
+pub mod Ordering
+pub mod Hanging
+pub mod Weights
+pub mod Positions
+pub mod Reading
+pub mod Behind
+pub mod Held
+pub mod OnePosition
 pub mod Questions
+pub mod InOrder
 pub mod Answers
 pub mod Ties
 pub mod Demands
@@ -17,3 +29,4 @@ pub mod Former
 pub mod OneLayer
 pub mod Starred
 pub mod Layered
+pub mod Repeated

@@ -1,28 +1,30 @@
--- The questions and the net as they were while a job had one layer, each named as the former one: a job whose layer bytes are all 0 gets the
--- number that it got, and has the net that it had. None of the former ones is a definition of the library.
-use mathlib.Core.Path.{_≡_, _∙_, refl, ap, ap₂, fun-ext}
-use mathlib.Core.Bool.{Bool, true, false, not, cond, _&&_, _||_, and-true}
+-- The questions and the net as they are without layers, each named as the former one, and each with what repeaters add: a job whose layer bytes are
+-- all 0 gets the number that it gets without layers, and has that net. None of the former ones is a definition of the library.
+use mathlib.Core.Path.{_≡_, _∙_, refl, sym, ap, ap₂, fun-ext}
+use mathlib.Core.Bool.{Bool, true, false, not, _&&_, _||_, and-true}
 use mathlib.Core.List.{List, [], _∷_, _++_}
 use Prim.Native.Nat.{ℕ, zero, suc, _+_, _*_, _-_, _≤_, _<_}
 use native.Mathlib.Nat.{zero-add}
-use native.Mathlib.Decide.{decLe}
+use native.Mathlib.Decide.{ℕ-discrete, decLe}
 use native.Mathlib.Omega.{arith}
 use borrow.Author.Tests.{eq-eqb}
-use lib.Dec.{T, leb, ltb, eqb, leb→le, eqb→eq}
+use lib.Dec.{T, leb, ltb, eqb, leb→le, eqb→eq, lit≤, lit<}
 use lib.ListN.{length}
 use Rattle.lattice.specs.Lists.{every}
 use Rattle.lattice.proofs.ListLaws.{is-true, and-T, every-at, at-every}
 use Rattle.lattice.proofs.Every.{every-same}
 use Rattle.net.specs.declared.Counts.{Counts}
-use Rattle.net.specs.Job.{byte, records, kind, countIf, countsOf, widthAt, widthLayer, widthsOf, firstRow, sizeAt, stageAt, segmentAt, placeAt, rowResistance, rowCapacitance, sizeResistance, sizeGate, sizeOutput, segmentParent, segmentSink, segmentLength, sinkCapacitance, sinkWeight, segmentLowest, segmentHighest, segmentLayer}
+use Rattle.net.specs.Job.{byte, records, kind, countIf, countsOf, ofKind, widthAt, widthLayer, widthsOf, firstRow, sizeAt, stageAt, segmentAt, repeaterAt, rowResistance, rowCapacitance, sizeResistance, sizeGate, sizeOutput, stageLowest, stageHighest, segmentParent, segmentSink, segmentLength, sinkCapacitance, sinkWeight, segmentLowest, segmentHighest, segmentLayer, repeaterSegment, repeaterLowest, repeaterHighest}
 use Rattle.net.specs.Net.{Net, netOf}
-use Rattle.net.specs.Questions.{inRange, question1, question2, question24, question3, question4, zeros, question5, question6, question7, question8, question9, sinkOrZero, question10, question11, Question, ask, firstNo, jobQuestions}
+use Rattle.net.specs.Questions.{inRange, question1, question2, question24, question3, question4, zeros, question5, question6, question7, question8, question9, sinkOrZero, question10, question11, question22, question23, Question, ask, firstNo, jobQuestions, refusal}
 use Rattle.net.proofs.Records.{never-falls, counts-each, counts-alike, counts-grow, counts-fill, layer-0, layer-1}
-use Rattle.net.proofs.Questions.{in-range}
+use Rattle.net.proofs.Questions.{in-range, Passed, passed}
+use Rattle.net.proofs.Answers.{job-fails}
+use Rattle.net.proofs.Unnamed.{unnamed-only}
 
 -- The former 3. Is each kind's count in its range?
 unfoldable pub formerQuestion3 : Counts → Bool
-formerQuestion3 c = inRange 1 8 (c .widths) && (inRange 1 16 (c .sizes) && (inRange 1 4 (c .stages) && inRange 1 64 (c .segments)))
+formerQuestion3 c = inRange 1 8 (c .widths) && (inRange 1 16 (c .sizes) && (inRange 1 4 (c .stages) && (inRange 1 64 (c .segments) && inRange 0 8 (c .repeaters))))
 
 module _ (c : Counts) (b : List ℕ) where
   -- The former 4. Do numbers count from 0 in each kind?
@@ -31,7 +33,8 @@ module _ (c : Counts) (b : List ℕ) where
       every (c .widths) (λ k. eqb (byte b (widthAt k + 1)) k)
       && (every (c .sizes) (λ k. eqb (byte b (sizeAt c k + 1)) k)
       && (every (c .stages) (λ s. eqb (byte b (stageAt c s + 1)) s)
-      && every (c .segments) (λ i. eqb (byte b (segmentAt c i + 1)) i)))
+      && (every (c .segments) (λ i. eqb (byte b (segmentAt c i + 1)) i)
+      && every (c .repeaters) (λ r. eqb (byte b (repeaterAt c r + 1)) r))))
 
   -- The former 5. Are all unnamed bytes zero? Byte 2 of a width and byte 15 of a segment were among them.
   unfoldable pub formerQuestion5 : Bool
@@ -39,7 +42,8 @@ module _ (c : Counts) (b : List ℕ) where
       every (c .widths) (λ k. zeros c b (widthAt k + 2) 2 && zeros c b (widthAt k + 12) 4)
       && (every (c .sizes) (λ k. zeros c b (sizeAt c k + 2) 2)
       && (every (c .stages) (λ s. zeros c b (stageAt c s + 4) 12)
-      && every (c .segments) (λ i. zeros c b (segmentAt c i + 15) 1)))
+      && (every (c .segments) (λ i. zeros c b (segmentAt c i + 15) 1)
+      && every (c .repeaters) (λ r. zeros c b (repeaterAt c r + 5) 11))))
 
   -- The former 7. In each of the two tables, does resistance strictly fall, and do width capacitance and gate capacitance strictly rise?
   unfoldable pub formerQuestion7 : Bool
@@ -65,8 +69,9 @@ module _ (c : Counts) (b : List ℕ) where
       record {
         stages = c .stages;
         segments = c .segments;
-        lowest = λ p. cond (ltb p (c .stages)) (byte b (placeAt c p + 2)) (byte b (placeAt c p + 13));
-        highest = λ p. cond (ltb p (c .stages)) (byte b (placeAt c p + 3)) (byte b (placeAt c p + 14));
+        repeaters = c .repeaters;
+        lowest = ofKind (c .stages) (c .segments) (stageLowest c b) (segmentLowest c b) (repeaterLowest c b);
+        highest = ofKind (c .stages) (c .segments) (stageHighest c b) (segmentHighest c b) (repeaterHighest c b);
         driverResistance = sizeResistance c b;
         gate = sizeGate c b;
         output = sizeOutput c b;
@@ -75,6 +80,7 @@ module _ (c : Counts) (b : List ℕ) where
         parent = segmentParent c b;
         sink = sinkCapacitance c b;
         weight = sinkWeight c b;
+        site = repeaterSegment c b;
       }
 
 -- The former questions of a job.
@@ -92,6 +98,8 @@ formerQuestions b =
     ∷ ask 9 (question9 c b)
     ∷ ask 10 (formerQuestion10 c b)
     ∷ ask 11 (question11 c b)
+    ∷ ask 22 (question22 c b)
+    ∷ ask 23 (question23 c b)
     ∷ []
 
 -- The layer bytes of a job are all 0: byte 2 of each width, byte 15 of each segment.
@@ -162,7 +170,7 @@ module _ {c : Counts} {b : List ℕ} (z : LayersZero c b) (one : c .layer0 ≡ c
       every-same (c .widths) _ _ (λ k h. ap₂ _&&_ (second-byte (widthAt k) (z .widths k h)) refl) in
       let s : every (c .segments) (λ i. zeros c b (segmentAt c i + 15) 1) ≡ true =
       is-true _ (at-every (c .segments) _ (λ i h. rw (last-byte (segmentAt c i) (z .segments i h)) tt)) in
-      rw (w, s, and-true)
+      rw (w, s)
 
   same-10 : question10 c b ≡ formerQuestion10 c b
   unfolding question10 formerQuestion10
@@ -173,13 +181,13 @@ module _ (b : List ℕ) (z : LayersZero (countsOf b) b) (two : T (question2 b)) 
   known : (r : ℕ) → r < records b → 1 ≤ kind b r
   unfolding question2
   known r h =
-      let a = and-T (every (records b) (λ k. inRange 1 4 (kind b k))) _ two .0 in
-      in-range 1 4 (kind b r) (every-at (records b) (λ k. inRange 1 4 (kind b k)) a r h) .0
+      let a = and-T (every (records b) (λ k. inRange 1 5 (kind b k))) _ two .0 in
+      in-range 1 5 (kind b r) (every-at (records b) (λ k. inRange 1 5 (kind b k)) a r h) .0
 
   in-order : (j k : ℕ) → j ≤ k → k < records b → kind b j ≤ kind b k
   unfolding question2
   in-order =
-      let a = and-T (every (records b) (λ k. inRange 1 4 (kind b k))) (every (records b - 1) (λ k. leb (kind b k) (kind b (suc k)))) two .1 in
+      let a = and-T (every (records b) (λ k. inRange 1 5 (kind b k))) (every (records b - 1) (λ k. leb (kind b k) (kind b (suc k)))) two .1 in
       never-falls (kind b) (records b) (λ k h. leb→le _ _ (every-at (records b - 1) (λ k. leb (kind b k) (kind b (suc k))) a k h))
 
   among-widths : (r : ℕ) → r < records b → kind b r ≡ 1 → r < countsOf b .widths
@@ -205,14 +213,22 @@ past-end [] at h = refl
 past-end (x ∷ b) zero h = absurd (omega (arith, h))
 past-end (x ∷ b) (suc at) h = past-end b at (omega (arith, h))
 
--- Where questions 1 and 2 pass, the records that are counted fill the job, so that the layer byte of a segment that there is not is 0 too.
-module _ (b : List ℕ) (z : LayersZero (countsOf b) b) (one : T (question1 b)) (two : T (question2 b)) where
+-- Where a job passes its questions, the records that are counted fill it and the unnamed bytes of its repeaters are zero, so that the layer byte of a
+-- segment that there is not is 0 too.
+module _ (b : List ℕ) (z : LayersZero (countsOf b) b) (a : Passed (countsOf b) b) where
   every-layer : (i : ℕ) → segmentLayer (countsOf b) b i ≡ 0
-  every-layer i = go (decLe (suc i) (countsOf b .segments))
+  every-layer i = go (decLe (suc i) (c .segments)) (decLe (suc i) (c .segments + c .repeaters))
     where
-      go : Dec (suc i ≤ countsOf b .segments) → segmentLayer (countsOf b) b i ≡ 0
-      go (yes h) = z .segments i h
-      go (no h) = past-end b (segmentAt (countsOf b) i + 15) (omega (arith, h, counts-fill b (is-true (question1 b) one) (is-true (question2 b) two)))
+      c : Counts
+      c = countsOf b
+
+      go : Dec (suc i ≤ c .segments) → Dec (suc i ≤ c .segments + c .repeaters) → segmentLayer c b i ≡ 0
+      go (yes h) k = z .segments i h
+      go (no h) (yes k) =
+          let r = i - c .segments in
+          let e : repeaterAt c r + 15 ≡ segmentAt c i + 15 = omega arith in
+          rw e at (unnamed-only c b .0 (a .five) .repeaters r (omega arith) 15 (lit≤ tt) (lit< tt))
+      go (no h) (no k) = past-end b (segmentAt c i + 15) (omega (arith, h, counts-fill b (is-true (question1 b) (a .one)) (is-true (question2 b) (a .two))))
 
   -- a row of a segment's layer is that of the one table
   same-row : (f : ℕ → ℕ) (i k : ℕ) → f (firstRow (countsOf b) (segmentLayer (countsOf b) b i) + k) ≡ f k
@@ -230,6 +246,7 @@ module _ (b : List ℕ) (z : LayersZero (countsOf b) b) (one : T (question1 b)) 
           record {
             stages = formerNet (countsOf b) b .stages;
             segments = formerNet (countsOf b) b .segments;
+            repeaters = formerNet (countsOf b) b .repeaters;
             lowest = formerNet (countsOf b) b .lowest;
             highest = formerNet (countsOf b) b .highest;
             driverResistance = formerNet (countsOf b) b .driverResistance;
@@ -240,15 +257,16 @@ module _ (b : List ℕ) (z : LayersZero (countsOf b) b) (one : T (question1 b)) 
             parent = formerNet (countsOf b) b .parent;
             sink = formerNet (countsOf b) b .sink;
             weight = formerNet (countsOf b) b .weight;
+            site = formerNet (countsOf b) b .site;
           }
 
 -- one question more that is passed, and the others alike, wherever the first two are passed
-same-first : (p q t : Bool) (xs ys vs ws : List Question) → (T p → T q → (t ≡ true) × (xs ≡ ys) × (vs ≡ ws))
-    → firstNo (ask 1 p ∷ ask 2 q ∷ ask 24 t ∷ (xs ++ vs)) ≡ firstNo (ask 1 p ∷ ask 2 q ∷ (ys ++ ws))
+same-first : (p q t : Bool) (xs ys : List Question) → (T p → T q → (t ≡ true) × (xs ≡ ys))
+    → firstNo (ask 1 p ∷ ask 2 q ∷ ask 24 t ∷ xs) ≡ firstNo (ask 1 p ∷ ask 2 q ∷ ys)
 unfolding firstNo
-same-first false q t xs ys vs ws h = refl
-same-first true false t xs ys vs ws h = refl
-same-first true true t xs ys vs ws h = let a = h tt tt in rw (a .0, a .1, a .2)
+same-first false q t xs ys h = refl
+same-first true false t xs ys h = refl
+same-first true true t xs ys h = let a = h tt tt in rw (a .0, a .1)
 
 -- The questions from 3 on, by those of 3, 4, 5, 7 and 10.
 abbrev fromThree : List ℕ → (three four five seven ten : Bool) → List Question
@@ -263,17 +281,25 @@ fromThree b three four five seven ten =
     ∷ ask 9 (question9 c b)
     ∷ ask 10 ten
     ∷ ask 11 (question11 c b)
+    ∷ ask 22 (question22 c b)
+    ∷ ask 23 (question23 c b)
     ∷ []
 
 -- A job whose layer bytes are all 0: an operation asks the job's questions and then its own of the net, whichever these are, and gets the number
--- that it got with the former questions and the former net.
-pub numbers-as-before : (b : List ℕ) (own : Net → List Question) → LayersZero (countsOf b) b
-    → firstNo (jobQuestions b ++ own (netOf b)) ≡ firstNo (formerQuestions b ++ own (formerNet (countsOf b) b))
-unfolding jobQuestions formerQuestions
-numbers-as-before b own z =
-    let c : Counts = countsOf b in
-    same-first (question1 b) (question2 b) (question24 c b)
-    (fromThree b (question3 c) (question4 c b) (question5 c b) (question7 c b) (question10 c b))
-    (fromThree b (formerQuestion3 c) (formerQuestion4 c b) (formerQuestion5 c b) (formerQuestion7 c b) (formerQuestion10 c b))
-    (own (netOf b)) (own (formerNet c b))
-    (λ p q. let e = one-layer b z q in (same-24 z e, rw (same-3 z e, same-4 z e, same-5 z e, same-7 z e, same-10 z e), ap own (net-as-before b z p q)))
+-- that it gets with the former questions and the former net.
+module _ (b : List ℕ) (z : LayersZero (countsOf b) b) where
+  asked-as-before : (own : List Question) → firstNo (jobQuestions b ++ own) ≡ firstNo (formerQuestions b ++ own)
+  unfolding jobQuestions formerQuestions
+  asked-as-before own =
+      let c : Counts = countsOf b in
+      same-first (question1 b) (question2 b) (question24 c b)
+      (fromThree b (question3 c) (question4 c b) (question5 c b) (question7 c b) (question10 c b) ++ own)
+      (fromThree b (formerQuestion3 c) (formerQuestion4 c b) (formerQuestion5 c b) (formerQuestion7 c b) (formerQuestion10 c b) ++ own)
+      (λ p q. let e = one-layer b z q in (same-24 z e, rw (same-3 z e, same-4 z e, same-5 z e, same-7 z e, same-10 z e)))
+
+  pub numbers-as-before : (own : Net → List Question) → firstNo (jobQuestions b ++ own (netOf b)) ≡ firstNo (formerQuestions b ++ own (formerNet (countsOf b) b))
+  numbers-as-before own = go (ℕ-discrete (refusal b) 0) ∙ asked-as-before (own (formerNet (countsOf b) b))
+    where
+      go : Dec (refusal b ≡ 0) → firstNo (jobQuestions b ++ own (netOf b)) ≡ firstNo (jobQuestions b ++ own (formerNet (countsOf b) b))
+      go (yes e) = ap (λ (net : Net). firstNo (jobQuestions b ++ own net)) (net-as-before b z (passed b e))
+      go (no n) = job-fails b (own (netOf b)) n ∙ sym (job-fails b (own (formerNet (countsOf b) b)) n)

@@ -1,33 +1,33 @@
--- What passed questions give: a job that passes questions 1 to 11 and 24 has the facts of `Checked`, so its net is ordered and within the limits, its
--- allowed sizings are closed and not empty, its delay is submodular on them and below 2 ^ 63, its load figure is what its stages charge, and
--- each of its records is counted in its kind.
+-- What passed questions give: a job that passes questions 1 to 11 and 22 to 24 has the facts of `Checked`, so its net is ordered and within the
+-- limits, its allowed sizings are closed and not empty, its delay is submodular on them and below 2 ^ 63, its load figure is what its drivers
+-- charge, and each of its records is counted in its kind.
 use mathlib.Core.Path.{_≡_, _∙_, refl, sym}
 use mathlib.Core.Logic.{_↔_}
 use mathlib.Core.Bool.{Bool, true, false, _&&_}
 use mathlib.Core.List.{List, _∷_}
 use Prim.Native.Nat.{ℕ, zero, suc, _+_, _*_, _-_, _^_, _≤_, _<_}
-use native.Mathlib.Nat.{mul-le-mul, mul-le-mul-right, le-dest}
-use native.Mathlib.Decide.{decLe}
+use native.Mathlib.Nat.{mul-le-mul, mul-le-mul-right}
 use native.Mathlib.Omega.{arith}
-use borrow.Author.Tests.{lt-ltb, le-ltb}
-use lib.Dec.{T, leb, ltb, leb→le, ltb→lt, lit<}
+use lib.Dec.{T, leb, ltb, eqb, leb→le, ltb→lt, eqb→eq, lit<}
 use lib.ListN.{length}
 use Rattle.lattice.specs.Lists.{at, sum, every, tabulate}
 use Rattle.lattice.specs.Space.{Allowed, Falls, Rises, Boxed, inBox, within, Submodular}
-use Rattle.lattice.proofs.ListLaws.{is-true, and-T, T-and, every-at, length-tabulate, at-tabulate}
+use Rattle.lattice.proofs.ListLaws.{is-true, and-T, T-and, every-at, some-at, length-tabulate, at-tabulate}
 use Rattle.lattice.proofs.Boxes.{inBox-iff}
 use Rattle.lattice.proofs.Sums.{rises-steps, falls-steps}
 use Rattle.net.specs.declared.Counts.{Counts}
-use Rattle.net.specs.Job.{countsOf, placesBy, widthsOf, firstRow, rowResistance, rowCapacitance, sizeResistance, sizeGate, sizeOutput, stageLowest, stageHighest, segmentParent, segmentSink, segmentLength, sinkCapacitance, sinkWeight, segmentLowest, segmentHighest, segmentLayer}
+use Rattle.net.specs.Job.{countsOf, ofKind, widthsOf, firstRow, rowResistance, rowCapacitance, sizeResistance, sizeGate, sizeOutput, stageLowest, stageHighest, segmentParent, segmentSink, segmentLength, sinkCapacitance, sinkWeight, segmentLowest, segmentHighest, segmentLayer, repeaterSegment, repeaterLowest, repeaterHighest}
 use Rattle.net.specs.Net.{Net, places, netBy, netOf}
 use Rattle.net.specs.Delay.{delay, loadFigure}
-use Rattle.net.specs.Segments.{stageCharge}
+use Rattle.net.specs.Segments.{stageCharge, repeaterCharge}
 use Rattle.net.specs.Sizings.{allowed}
-use Rattle.net.specs.Questions.{inRange, question1, question2, question24, question3, question4, sinkOrZero, question5, question6, question7, question8, question9, question10, question11, Question, ask, firstNo, jobQuestions, refusal}
+use Rattle.net.specs.Questions.{inRange, question1, question2, question24, question3, question4, sinkOrZero, question5, question6, question7, question8, question9, question10, hasBranches, question11, question22, question23, Question, ask, firstNo, jobQuestions, refusal}
 use Rattle.net.specs.Checked.{Held, Checked, InRanges, Ordered, Limited}
 use Rattle.net.proofs.Dominance.{delay-submodular}
 use Rattle.net.proofs.Bound.{delay-fits}
 use Rattle.net.proofs.Charged.{load-charged}
+use Rattle.net.proofs.Places.{is-stage, is-segment, is-repeater, kinds}
+use Rattle.net.proofs.Order.{rising-steps}
 use Rattle.net.proofs.Records.{counts-held, layer-1, row-held, counts-fill}
 
 -- where no question fails, the first passes and so do the rest
@@ -36,7 +36,7 @@ unfolding firstNo
 firstNo-zero n true qs e = (tt, e)
 firstNo-zero n false qs e = absurd (omega arith)
 
--- The twelve questions, all passed.
+-- The fourteen questions, all passed.
 pub record Passed (c : Counts) (b : List ℕ) : Type 0 where
   pub one : T (question1 b)
   pub two : T (question2 b)
@@ -50,6 +50,8 @@ pub record Passed (c : Counts) (b : List ℕ) : Type 0 where
   pub nine : T (question9 c b)
   pub ten : T (question10 c b)
   pub eleven : T (question11 c b)
+  pub sited : T (question22 c b)
+  pub repeated : T (question23 c b)
 
 pub passed : (b : List ℕ) → refusal b ≡ 0 → Passed (countsOf b) b
 unfolding refusal jobQuestions
@@ -67,6 +69,8 @@ passed b e =
     let a9 = firstNo-zero 8 (question9 c b) _ (a8 .1) in
     let a10 = firstNo-zero 9 (question10 c b) _ (a9 .1) in
     let a11 = firstNo-zero 10 (question11 c b) _ (a10 .1) in
+    let a22 = firstNo-zero 21 (question22 c b) _ (a11 .1) in
+    let a23 = firstNo-zero 22 (question23 c b) _ (a22 .1) in
     record {
       one = a1 .0;
       two = a2 .0;
@@ -80,6 +84,8 @@ passed b e =
       nine = a9 .0;
       ten = a10 .0;
       eleven = a11 .0;
+      sited = a22 .0;
+      repeated = a23 .0;
     }
 
 pub in-range : (l h v : ℕ) → T (inRange l h v) → (l ≤ v) × (v ≤ h)
@@ -87,19 +93,21 @@ in-range l h v t = let a = and-T (leb l v) (leb v h) t in (leb→le l v (a .0), 
 
 -- each question's facts
 module _ (c : Counts) (b : List ℕ) (a : Passed c b) where
-  few : (widthsOf c 0 ≤ 8) × (widthsOf c 1 ≤ 8) × (c .sizes ≤ 16) × (1 ≤ c .stages) × (c .stages ≤ 4) × (c .segments ≤ 64)
+  few : (widthsOf c 0 ≤ 8) × (widthsOf c 1 ≤ 8) × (c .sizes ≤ 16) × (1 ≤ c .stages) × (c .stages ≤ 4) × (c .segments ≤ 64) × (c .repeaters ≤ 8)
   unfolding question3
   few =
       let v = and-T (inRange 1 8 (widthsOf c 0)) _ (a .three) in
       let w = and-T (inRange 0 8 (widthsOf c 1)) _ (v .1) in
       let s = and-T (inRange 1 16 (c .sizes)) _ (w .1) in
-      let t = and-T (inRange 1 4 (c .stages)) (inRange 1 64 (c .segments)) (s .1) in (
+      let t = and-T (inRange 1 4 (c .stages)) _ (s .1) in
+      let u = and-T (inRange 1 64 (c .segments)) (inRange 0 8 (c .repeaters)) (t .1) in (
         in-range 1 8 _ (v .0) .1,
         in-range 0 8 _ (w .0) .1,
         in-range 1 16 _ (s .0) .1,
         in-range 1 4 _ (t .0) .0,
         in-range 1 4 _ (t .0) .1,
-        in-range 1 64 _ (t .1) .1,
+        in-range 1 64 _ (u .0) .1,
+        in-range 0 8 _ (u .1) .1,
       )
 
   -- A layer byte above 1 counts as 1.
@@ -185,30 +193,46 @@ module _ (c : Counts) (b : List ℕ) (a : Passed c b) where
         ltb→lt _ _ (t6 .1),
       )
 
--- A place's range is a stage's or a segment's.
+  -- the segments of the repeaters
+  sited : (r : ℕ) → r < c .repeaters → T (ltb (repeaterSegment c b r) (c .segments)) × T (hasBranches c b (repeaterSegment c b r))
+  unfolding question22
+  sited r h =
+      let t = and-T (every (c .repeaters) (λ z. ltb (repeaterSegment c b z) (c .segments) && hasBranches c b (repeaterSegment c b z))) _ (a .sited) .0 in
+      and-T (ltb (repeaterSegment c b r) (c .segments)) (hasBranches c b (repeaterSegment c b r)) (every-at (c .repeaters) _ t r h)
+
+  branched : (r : ℕ) → r < c .repeaters → (j : ℕ) × (j < c .segments) × (segmentParent c b j ≡ suc (repeaterSegment c b r))
+  unfolding hasBranches
+  branched r h =
+      let s = some-at (c .segments) (λ j. eqb (segmentParent c b j) (suc (repeaterSegment c b r))) (sited r h .1) in
+      (s .0, s .1, eqb→eq _ _ (s .2))
+
+  rising : (r : ℕ) → suc r < c .repeaters → repeaterSegment c b r < repeaterSegment c b (suc r)
+  unfolding question22
+  rising r h =
+      let t = and-T (every (c .repeaters) (λ z. ltb (repeaterSegment c b z) (c .segments) && hasBranches c b (repeaterSegment c b z))) _ (a .sited) .1 in
+      ltb→lt _ _ (every-at (c .repeaters - 1) (λ z. ltb (repeaterSegment c b z) (repeaterSegment c b (suc z))) t r (omega arith))
+
+  repeater-range : (r : ℕ) → r < c .repeaters → (repeaterLowest c b r ≤ repeaterHighest c b r) × (repeaterHighest c b r < c .sizes)
+  unfolding question23
+  repeater-range r h =
+      let v = and-T (leb (repeaterLowest c b r) (repeaterHighest c b r)) (ltb (repeaterHighest c b r) (c .sizes)) (every-at (c .repeaters) _ (a .repeated) r h) in
+      (leb→le _ _ (v .0), ltb→lt _ _ (v .1))
+
+-- A place's range is a stage's, a segment's or a repeater's.
 module _ (c : Counts) (b : List ℕ) where
-  pub stage-lowest : (s : ℕ) → s < c .stages → netBy c b .lowest s ≡ stageLowest c b s
-  stage-lowest s h = rw (lt-ltb s (c .stages) h)
+  pub stage-range-is : (s : ℕ) → s < c .stages → (netBy c b .lowest s ≡ stageLowest c b s) × (netBy c b .highest s ≡ stageHighest c b s)
+  unfolding ofKind
+  stage-range-is s h = let k = is-stage (netBy c b) s h in (rw k, rw k)
 
-  pub stage-highest : (s : ℕ) → s < c .stages → netBy c b .highest s ≡ stageHighest c b s
-  stage-highest s h = rw (lt-ltb s (c .stages) h)
+  pub segment-range-is : (i : ℕ) → i < c .segments
+      → (netBy c b .lowest (c .stages + i) ≡ segmentLowest c b i) × (netBy c b .highest (c .stages + i) ≡ segmentHighest c b i)
+  unfolding ofKind
+  segment-range-is i h = let k = is-segment (netBy c b) i h in (rw (k .0, k .1, k .2), rw (k .0, k .1, k .2))
 
-  pub segment-lowest : (i : ℕ) → netBy c b .lowest (c .stages + i) ≡ segmentLowest c b i
-  segment-lowest i = let h : c .stages ≤ c .stages + i = omega arith in rw (le-ltb (c .stages + i) (c .stages) h)
-
-  pub segment-highest : (i : ℕ) → netBy c b .highest (c .stages + i) ≡ segmentHighest c b i
-  segment-highest i = let h : c .stages ≤ c .stages + i = omega arith in rw (le-ltb (c .stages + i) (c .stages) h)
-
-  -- a place is a stage, or a segment
-  pub place-cases : (P : ℕ → Type 0) → ((s : ℕ) → s < c .stages → P s) → ((i : ℕ) → i < c .segments → P (c .stages + i)) → (p : ℕ) → p < placesBy c → P p
-  place-cases P f g p h = go (decLe (suc p) (c .stages))
-    where
-      go : Dec (suc p ≤ c .stages) → P p
-      go (yes l) = f p l
-      go (no l) =
-          let m : c .stages ≤ p = omega arith in
-          let d = le-dest m in
-          rw (d .1) at (g (d .0) (omega (arith, d .1)))
+  pub repeater-range-is : (r : ℕ)
+      → (netBy c b .lowest (c .stages + c .segments + r) ≡ repeaterLowest c b r) × (netBy c b .highest (c .stages + c .segments + r) ≡ repeaterHighest c b r)
+  unfolding ofKind
+  repeater-range-is r = let k = is-repeater (netBy c b) r in (rw (k .0, k .1, k .2), rw (k .0, k .1, k .2))
 
 -- All facts at once.
 pub checked-by : (c : Counts) (b : List ℕ) → c ≡ countsOf b → Held c b → Passed c b → Checked c b
@@ -221,19 +245,25 @@ checked-by c b e h a =
       someStage = few c b a .3;
       fewStages = few c b a .4;
       fewSegments = few c b a .5;
+      fewRepeaters = few c b a .6;
       rows = rows c b a;
       drivers = drivers c b a;
       rowsOrder = rows-order c b a;
       driversOrder = drivers-order c b a;
-      ranges = place-cases c b (λ p. netBy c b .lowest p ≤ netBy c b .highest p)
-          (λ s l. rw (stage-lowest c b s l, stage-highest c b s l) (stage-range c b a s l .0))
-          (λ i l. rw (segment-lowest c b i, segment-highest c b i) (segment-fields c b a i l .4));
-      sized = λ s l. rw (stage-highest c b s l) (stage-range c b a s l .1);
-      wired = λ i l. rw (segment-highest c b i) (segment-fields c b a i l .5);
+      ranges = kinds (netBy c b) (λ p. netBy c b .lowest p ≤ netBy c b .highest p)
+          (λ s l. let e = stage-range-is c b s l in rw (e .0, e .1) (stage-range c b a s l .0))
+          (λ i l. let e = segment-range-is c b i l in rw (e .0, e .1) (segment-fields c b a i l .4))
+          (λ r l. let e = repeater-range-is c b r in rw (e .0, e .1) (repeater-range c b a r l .0));
+      sized = λ s l. rw (stage-range-is c b s l .1) (stage-range c b a s l .1);
+      wired = λ i l. rw (segment-range-is c b i l .1) (segment-fields c b a i l .5);
+      repeaterSized = λ r l. rw (repeater-range-is c b r .1) (repeater-range c b a r l .1);
       parents = parents c b a;
       lengths = λ i l. segment-fields c b a i l .1;
       sinks = λ i l. segment-fields c b a i l .2;
       weights = λ i l. segment-fields c b a i l .3;
+      sites = λ r l. ltb→lt _ _ (sited c b a r l .0);
+      branched = branched c b a;
+      rising = rising c b a;
     }
 
 pub checked : (b : List ℕ) → refusal b ≡ 0 → Checked (countsOf b) b
@@ -253,14 +283,25 @@ module _ {c : Counts} {b : List ℕ} (k : Checked c b) where
       let r = k .rows (firstRow c (segmentLayer c b i) + w) (row-held (k .held) (segmentLayer c b i) w n) in
       (mul-le-mul (r .0) (k .lengths i h), mul-le-mul (r .1) (k .lengths i h))
 
+  -- the sizes of a driver, up to the highest that it may have
+  sizes-fall : (l h : ℕ) → h < c .sizes → Falls l h (sizeResistance c b)
+  sizes-fall l h n = falls-steps l h (sizeResistance c b) (λ z i j. let o = k .driversOrder z (omega arith) in omega arith)
+
+  sizes-rise : (l h : ℕ) → h < c .sizes → Rises l h (sizeGate c b)
+  sizes-rise l h n = rises-steps l h (sizeGate c b) (λ z i j. let o = k .driversOrder z (omega arith) in omega arith)
+
   pub ordered : Ordered (netBy c b)
   ordered =
       record {
         parents = k .parents;
-        drivers = λ s h. let n = k .sized s h in falls-steps _ _ (sizeResistance c b) (λ z i j. let o = k .driversOrder z (omega arith) in omega arith);
-        gates = λ s h. let n = k .sized s h in rises-steps _ _ (sizeGate c b) (λ z i j. let o = k .driversOrder z (omega arith) in omega arith);
+        drivers = λ s h. sizes-fall _ _ (k .sized s h);
+        gates = λ s h. sizes-rise _ _ (k .sized s h);
         resistances = λ i h. rows-fall (segmentLayer c b i) _ _ _ (k .wired i h);
         capacitances = λ i h. rows-rise (segmentLayer c b i) _ _ _ (k .wired i h);
+        sites = k .sites;
+        rising = rising-steps (c .repeaters) (repeaterSegment c b) (k .rising);
+        repeaterDrivers = λ r h. sizes-fall _ _ (k .repeaterSized r h);
+        repeaterGates = λ r h. sizes-rise _ _ (k .repeaterSized r h);
       }
 
   pub limited : Limited (netBy c b)
@@ -268,6 +309,7 @@ module _ {c : Counts} {b : List ℕ} (k : Checked c b) where
       record {
         stages = k .fewStages;
         segments = k .fewSegments;
+        repeaters = k .fewRepeaters;
         weights = k .weights;
         sinks = k .sinks;
         resistances = λ i w h n. wire-small i w h (omega (arith, k .wired i h)) .0;
@@ -275,6 +317,7 @@ module _ {c : Counts} {b : List ℕ} (k : Checked c b) where
         drivers = λ s z h n. k .drivers z (omega (arith, k .sized s h)) .0;
         gates = λ s z h n. k .drivers z (omega (arith, k .sized s h)) .1;
         outputs = λ s z h n. k .drivers z (omega (arith, k .sized s h)) .2;
+        repeaterSizes = λ r z h n. k .drivers z (omega (arith, k .repeaterSized r h));
       }
 
   module _ {x : List ℕ} (a : InRanges (netBy c b) x) where
@@ -285,14 +328,20 @@ module _ {c : Counts} {b : List ℕ} (k : Checked c b) where
     pub size-held : (s : ℕ) → s < c .stages → at x s < c .sizes
     size-held s l = omega (arith, k .sized s l, a .high s (omega arith))
 
+    pub repeater-held : (r : ℕ) → r < c .repeaters → at x (c .stages + c .segments + r) < c .sizes
+    repeater-held r l = omega (arith, k .repeaterSized r l, a .high (c .stages + c .segments + r) (omega arith))
+
 -- An allowed sizing is one whose indices are in their ranges.
-pub allowed-iff : (net : Net) (x : List ℕ) → Allowed (allowed net) x ↔ Boxed (places net) (net .lowest) (net .highest) x
+pub box-iff : (n : ℕ) (low high : ℕ → ℕ) (x : List ℕ) → Allowed (within n low high (λ y. true)) x ↔ Boxed n low high x
 unfolding within
-allowed-iff net x =
-    let i = inBox-iff (places net) (net .lowest) (net .highest) x in (
-      λ t. i .0 (and-T (inBox (places net) (net .lowest) (net .highest) x) true t .0),
-      λ y. T-and (inBox (places net) (net .lowest) (net .highest) x) true (i .1 y) tt,
+box-iff n low high x =
+    let i = inBox-iff n low high x in (
+      λ t. i .0 (and-T (inBox n low high x) true t .0),
+      λ y. T-and (inBox n low high x) true (i .1 y) tt,
     )
+
+pub allowed-iff : (net : Net) (x : List ℕ) → Allowed (allowed net) x ↔ Boxed (places net) (net .lowest) (net .highest) x
+allowed-iff net x = box-iff (places net) (net .lowest) (net .highest) x
 
 pub allowed-long : (net : Net) (x : List ℕ) → Allowed (allowed net) x → length x ≡ places net
 allowed-long net x a = allowed-iff net x .0 a .long
@@ -315,7 +364,7 @@ module _ {c : Counts} {b : List ℕ} (k : Checked c b) where
       record {
         long = length-tabulate n f;
         low = λ p h. rw (at-tabulate n f p h) (omega arith);
-        high = λ p h. rw (at-tabulate n f p h) (k .ranges p h);
+        high = λ p h. rw (at-tabulate n f p h) (k .ranges p (omega arith));
       }
 
   pub checked-submodular : Submodular (allowed (netBy c b)) (delay (netBy c b))
@@ -325,11 +374,11 @@ module _ {c : Counts} {b : List ℕ} (k : Checked c b) where
   pub checked-fits : (x : List ℕ) → Allowed (allowed (netBy c b)) x → delay (netBy c b) x < 2 ^ 63
   checked-fits x a = delay-fits (netBy c b) (ordered k) (limited k) x (allowed-ranges (netBy c b) x a)
 
-  -- the load figure is what the stages charge together
-  pub checked-charged : (x : List ℕ) → sum (c .stages) (stageCharge (netBy c b) x) ≡ loadFigure (netBy c b) x
-  checked-charged x = load-charged (netBy c b) x (k .someStage) (k .parents)
+  -- the load figure is what the drivers charge together
+  pub checked-charged : (x : List ℕ) → sum (c .stages) (stageCharge (netBy c b) x) + sum (c .repeaters) (repeaterCharge (netBy c b) x) ≡ loadFigure (netBy c b) x
+  checked-charged x = load-charged (netBy c b) x (ordered k) (k .someStage)
 
--- The same of every job that passes questions 1 to 11 and 24.
+-- The same of every job that passes questions 1 to 11 and 22 to 24.
 module _ (b : List ℕ) (e : refusal b ≡ 0) where
   pub job-allowed : Allowed (allowed (netOf b)) (lowestSizing (netOf b))
   job-allowed = checked-allowed (checked b e)
@@ -340,8 +389,8 @@ module _ (b : List ℕ) (e : refusal b ≡ 0) where
   pub job-fits : (x : List ℕ) → Allowed (allowed (netOf b)) x → delay (netOf b) x < 2 ^ 63
   job-fits = checked-fits (checked b e)
 
-  pub job-filled : 16 * (countsOf b .widths + countsOf b .sizes + countsOf b .stages + countsOf b .segments) ≡ length b
+  pub job-filled : 16 * (countsOf b .widths + countsOf b .sizes + countsOf b .stages + countsOf b .segments + countsOf b .repeaters) ≡ length b
   job-filled = let a = passed b e in counts-fill b (is-true _ (a .one)) (is-true _ (a .two))
 
-  pub job-charged : (x : List ℕ) → sum (netOf b .stages) (stageCharge (netOf b) x) ≡ loadFigure (netOf b) x
+  pub job-charged : (x : List ℕ) → sum (netOf b .stages) (stageCharge (netOf b) x) + sum (netOf b .repeaters) (repeaterCharge (netOf b) x) ≡ loadFigure (netOf b) x
   job-charged = checked-charged (checked b e)

@@ -10,7 +10,7 @@ use lib.Dec.{T, eqb, eqb→eq}
 use Rattle.lattice.specs.Lists.{every}
 use Rattle.lattice.proofs.ListLaws.{and-T, T-and, eq-T, every-at, at-every}
 use Rattle.net.specs.declared.Counts.{Counts}
-use Rattle.net.specs.Job.{byte, widthAt, sizeAt, stageAt}
+use Rattle.net.specs.Job.{byte, widthAt, sizeAt, stageAt, repeaterAt}
 use Rattle.net.specs.Questions.{zeros, question5}
 
 -- Bytes l to h, h left out, of the record at r are zero.
@@ -23,6 +23,7 @@ pub record UnnamedZero (c : Counts) (b : List ℕ) : Type 0 where
   pub widthsBehind : (k : ℕ) → k < c .widths → ZeroBytes b (widthAt k) 12 16
   pub sizes : (k : ℕ) → k < c .sizes → ZeroBytes b (sizeAt c k) 2 4
   pub stages : (s : ℕ) → s < c .stages → ZeroBytes b (stageAt c s) 4 16
+  pub repeaters : (r : ℕ) → r < c .repeaters → ZeroBytes b (repeaterAt c r) 5 16
 
 module _ (c : Counts) (b : List ℕ) where
   bytes-zero : (r l n : ℕ) → ZeroBytes b r l (l + n) → T (zeros c b (r + l) n)
@@ -46,25 +47,32 @@ module _ (c : Counts) (b : List ℕ) where
   abbrev stage : ℕ → Bool
   stage s = zeros c b (stageAt c s + 4) 12
 
+  abbrev repeater : ℕ → Bool
+  repeater r = zeros c b (repeaterAt c r + 5) 11
+
   zero-passes : UnnamedZero c b → T (question5 c b)
   unfolding question5
   zero-passes u =
-      T-and (every (c .widths) row) (every (c .sizes) size && every (c .stages) stage)
+      T-and (every (c .widths) row) (every (c .sizes) size && (every (c .stages) stage && every (c .repeaters) repeater))
       (at-every (c .widths) row (λ k h. T-and (zeros c b (widthAt k + 3) 1) _ (bytes-zero (widthAt k) 3 1 (u .widthsBefore k h)) (bytes-zero (widthAt k) 12 4 (u .widthsBehind k h))))
-      (T-and (every (c .sizes) size) (every (c .stages) stage)
+      (T-and (every (c .sizes) size) (every (c .stages) stage && every (c .repeaters) repeater)
       (at-every (c .sizes) size (λ k h. bytes-zero (sizeAt c k) 2 2 (u .sizes k h)))
-      (at-every (c .stages) stage (λ s h. bytes-zero (stageAt c s) 4 12 (u .stages s h))))
+      (T-and (every (c .stages) stage) (every (c .repeaters) repeater)
+      (at-every (c .stages) stage (λ s h. bytes-zero (stageAt c s) 4 12 (u .stages s h)))
+      (at-every (c .repeaters) repeater (λ r h. bytes-zero (repeaterAt c r) 5 11 (u .repeaters r h)))))
 
   passes-zero : T (question5 c b) → UnnamedZero c b
   unfolding question5
   passes-zero t =
       let t1 = and-T (every (c .widths) row) _ t in
-      let t2 = and-T (every (c .sizes) size) (every (c .stages) stage) (t1 .1) in
+      let t2 = and-T (every (c .sizes) size) (every (c .stages) stage && every (c .repeaters) repeater) (t1 .1) in
+      let t3 = and-T (every (c .stages) stage) (every (c .repeaters) repeater) (t2 .1) in
       record {
         widthsBefore = λ k h. zero-bytes (widthAt k) 3 1 (and-T (zeros c b (widthAt k + 3) 1) _ (every-at (c .widths) row (t1 .0) k h) .0);
         widthsBehind = λ k h. zero-bytes (widthAt k) 12 4 (and-T (zeros c b (widthAt k + 3) 1) _ (every-at (c .widths) row (t1 .0) k h) .1);
         sizes = λ k h. zero-bytes (sizeAt c k) 2 2 (every-at (c .sizes) size (t2 .0) k h);
-        stages = λ s h. zero-bytes (stageAt c s) 4 12 (every-at (c .stages) stage (t2 .1) s h);
+        stages = λ s h. zero-bytes (stageAt c s) 4 12 (every-at (c .stages) stage (t3 .0) s h);
+        repeaters = λ r h. zero-bytes (repeaterAt c r) 5 11 (every-at (c .repeaters) repeater (t3 .1) r h);
       }
 
   pub unnamed-only : T (question5 c b) ↔ UnnamedZero c b

@@ -1,5 +1,5 @@
 -- What the contracts of inner functions ask: the facts that a job's passed questions give. `proofs/Questions` shows that every job that passes
--- questions 1 to 11 and 24 has them; no public operation asks them of its caller.
+-- questions 1 to 11 and 22 to 24 has them; no public operation asks them of its caller.
 use mathlib.Core.Path.{_≡_}
 use mathlib.Core.List.{List}
 use Prim.Native.Nat.{ℕ, suc, _+_, _*_, _≤_, _<_}
@@ -13,10 +13,10 @@ use Rattle.net.specs.Sizings.{allowed}
 
 -- The records that are counted are there, and the widths of layer 0 are among the widths.
 pub record Held (c : Counts) (b : List ℕ) : Type 0 where
-  pub all : 16 * (c .widths + c .sizes + c .stages + c .segments) ≤ length b
+  pub all : 16 * (c .widths + c .sizes + c .stages + c .segments + c .repeaters) ≤ length b
   pub layers : c .layer0 ≤ c .widths
 
--- What questions 1 to 10 give, with the counts of the job's records.
+-- What questions 1 to 10, 22 and 23 give, with the counts of the job's records.
 pub record Checked (c : Counts) (b : List ℕ) : Type 0 where
   -- 1, 2 and 3
   pub counted : c ≡ countsOf b
@@ -26,6 +26,7 @@ pub record Checked (c : Counts) (b : List ℕ) : Type 0 where
   pub someStage : 1 ≤ c .stages
   pub fewStages : c .stages ≤ 4
   pub fewSegments : c .segments ≤ 64
+  pub fewRepeaters : c .repeaters ≤ 8
   -- 6
   pub rows : (k : ℕ) → k < c .widths → (rowResistance b k ≤ 100) × (rowCapacitance b k ≤ 100)
   pub drivers : (k : ℕ) → k < c .sizes → (sizeResistance c b k ≤ 100000) × (sizeGate c b k ≤ 100000) × (sizeOutput c b k ≤ 100000)
@@ -34,16 +35,21 @@ pub record Checked (c : Counts) (b : List ℕ) : Type 0 where
       → (rowResistance b (firstRow c l + suc k) < rowResistance b (firstRow c l + k))
       × (rowCapacitance b (firstRow c l + k) < rowCapacitance b (firstRow c l + suc k))
   pub driversOrder : (k : ℕ) → suc k < c .sizes → (sizeResistance c b (suc k) < sizeResistance c b k) × (sizeGate c b k < sizeGate c b (suc k))
-  -- 8 and 10: each range is not empty and of its table
+  -- 8, 10 and 23: each range is not empty and of its table
   pub ranges : (p : ℕ) → p < placesBy c → netBy c b .lowest p ≤ netBy c b .highest p
   pub sized : (s : ℕ) → s < c .stages → netBy c b .highest s < c .sizes
   pub wired : (i : ℕ) → i < c .segments → netBy c b .highest (c .stages + i) < widthsOf c (segmentLayer c b i)
+  pub repeaterSized : (r : ℕ) → r < c .repeaters → netBy c b .highest (c .stages + c .segments + r) < c .sizes
   -- 9
   pub parents : (i : ℕ) → i < c .segments → netBy c b .parent i ≤ i
   -- 10
   pub lengths : (i : ℕ) → i < c .segments → segmentLength c b i ≤ 1000
   pub sinks : (i : ℕ) → i < c .segments → netBy c b .sink i ≤ 100000
   pub weights : (i : ℕ) → i < c .segments → netBy c b .weight i ≤ 255
+  -- 22
+  pub sites : (r : ℕ) → r < c .repeaters → netBy c b .site r < c .segments
+  pub branched : (r : ℕ) → r < c .repeaters → (j : ℕ) × (j < c .segments) × (netBy c b .parent j ≡ suc (netBy c b .site r))
+  pub rising : (r : ℕ) → suc r < c .repeaters → netBy c b .site r < netBy c b .site (suc r)
 
 -- x is an allowed sizing of the job's net.
 abbrev pub AllowedBy : Counts → List ℕ → List ℕ → Type 0
@@ -59,19 +65,27 @@ pub record InRanges (net : Net) (x : List ℕ) : Type 0 where
   pub low : (p : ℕ) → p < places net → net .lowest p ≤ at x p
   pub high : (p : ℕ) → p < places net → at x p ≤ net .highest p
 
--- Segments are numbered after what they hang from, and over each place's range resistance falls and gate and wire capacitance rise.
--- Of output capacitance no order is asked.
+-- Segments are numbered after what they hang from, repeaters by their segments, and over each place's range resistance falls and gate and wire
+-- capacitance rise. Of output capacitance no order is asked.
 pub record Ordered (net : Net) : Type 0 where
   pub parents : (i : ℕ) → i < net .segments → net .parent i ≤ i
   pub drivers : (s : ℕ) → s < net .stages → Falls (net .lowest s) (net .highest s) (net .driverResistance)
   pub gates : (s : ℕ) → s < net .stages → Rises (net .lowest s) (net .highest s) (net .gate)
   pub resistances : (i : ℕ) → i < net .segments → Falls (net .lowest (net .stages + i)) (net .highest (net .stages + i)) (net .wireResistance i)
   pub capacitances : (i : ℕ) → i < net .segments → Rises (net .lowest (net .stages + i)) (net .highest (net .stages + i)) (net .wireCapacitance i)
+  pub sites : (r : ℕ) → r < net .repeaters → net .site r < net .segments
+  pub rising : (r s : ℕ) → r < s → s < net .repeaters → net .site r < net .site s
+  pub repeaterDrivers : (r : ℕ) → r < net .repeaters
+      → Falls (net .lowest (net .stages + net .segments + r)) (net .highest (net .stages + net .segments + r)) (net .driverResistance)
+  pub repeaterGates : (r : ℕ) → r < net .repeaters
+      → Rises (net .lowest (net .stages + net .segments + r)) (net .highest (net .stages + net .segments + r)) (net .gate)
 
--- The limits of the specification: on the counts, on what a segment has at each of its widths, and on what a stage has at each of its sizes.
+-- The limits of the specification: on the counts, on what a segment has at each of its widths, and on what a stage or a repeater has at each of its
+-- sizes.
 pub record Limited (net : Net) : Type 0 where
   pub stages : net .stages ≤ 4
   pub segments : net .segments ≤ 64
+  pub repeaters : net .repeaters ≤ 8
   pub weights : (i : ℕ) → i < net .segments → net .weight i ≤ 255
   pub sinks : (i : ℕ) → i < net .segments → net .sink i ≤ 100000
   pub resistances : (i k : ℕ) → i < net .segments → k ≤ net .highest (net .stages + i) → net .wireResistance i k ≤ 100000
@@ -79,3 +93,5 @@ pub record Limited (net : Net) : Type 0 where
   pub drivers : (s k : ℕ) → s < net .stages → k ≤ net .highest s → net .driverResistance k ≤ 100000
   pub gates : (s k : ℕ) → s < net .stages → k ≤ net .highest s → net .gate k ≤ 100000
   pub outputs : (s k : ℕ) → s < net .stages → k ≤ net .highest s → net .output k ≤ 100000
+  pub repeaterSizes : (r k : ℕ) → r < net .repeaters → k ≤ net .highest (net .stages + net .segments + r)
+      → (net .driverResistance k ≤ 100000) × (net .gate k ≤ 100000) × (net .output k ≤ 100000)

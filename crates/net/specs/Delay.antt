@@ -1,17 +1,17 @@
 -- The Elmore delay of a sized net, sink by sink along the path from the source, and its load figure: the section 'Delay' of the specification.
 -- What a segment adds and the delay of a sink are twice the published ones, so that half of a segment's own capacitance is a whole number; what
--- a stage adds is doubled with the delay of a sink.
-use mathlib.Core.Bool.{cond}
+-- a stage or a repeater adds is doubled with the delay of a sink.
+use mathlib.Core.Bool.{Bool, cond}
 use mathlib.Core.List.{List}
 use Prim.Native.Nat.{ℕ, zero, suc, _+_, _*_, _-_}
 use lib.Dec.{eqb}
-use Rattle.lattice.specs.Lists.{at, sum}
+use Rattle.lattice.specs.Lists.{at, some, sum}
 use Rattle.net.specs.Net.{Net}
 
--- The branches at the node q, to the depth d: the sum over each branch of what its segment owns and of its own branches.
-unfoldable pub branchesTo : ℕ → (ℕ → ℕ) → (ℕ → ℕ) → ℕ → ℕ → ℕ
-branchesTo n parent own zero q = 0
-branchesTo n parent own (suc d) q = sum n (λ i. cond (eqb (parent i) q) (own i + branchesTo n parent own d (suc i)) 0)
+-- The branches at the node q, to the depth d: the sum of what each has, where `has i l` is what the branch of segment i has with l in its own branches.
+unfoldable pub branchesTo : ℕ → (ℕ → ℕ) → (ℕ → ℕ → ℕ) → ℕ → ℕ → ℕ
+branchesTo n parent has zero q = 0
+branchesTo n parent has (suc d) q = sum n (λ i. cond (eqb (parent i) q) (has i (branchesTo n parent has d (suc i))) 0)
 
 -- The sum of f over the segments on the way from the node q up to the source, at most d of them.
 unfoldable pub climb : (ℕ → ℕ) → (ℕ → ℕ) → ℕ → ℕ → ℕ
@@ -20,9 +20,9 @@ climb parent f (suc d) zero = 0
 climb parent f (suc d) (suc i) = f i + climb parent f d (parent i)
 
 module _ (net : Net) where
-  -- The branches at the node q: a tree is no deeper than the number of its segments.
+  -- All that the segments in the branches at the node q own: a tree is no deeper than the number of its segments.
   abbrev pub branches : (ℕ → ℕ) → ℕ → ℕ
-  branches own q = branchesTo (net .segments) (net .parent) own (net .segments) q
+  branches own q = branchesTo (net .segments) (net .parent) (λ i l. own i + l) (net .segments) q
 
   -- One branch: segment i and all below it.
   abbrev pub branch : (ℕ → ℕ) → ℕ → ℕ
@@ -31,6 +31,18 @@ module _ (net : Net) where
   -- The sum of f over the path from the source to the far end of segment i.
   abbrev pub path : (ℕ → ℕ) → ℕ → ℕ
   path f i = climb (net .parent) f (net .segments) (suc i)
+
+  -- The same without segment i: over the segments strictly above it.
+  abbrev pub above : (ℕ → ℕ) → ℕ → ℕ
+  above f i = climb (net .parent) f (net .segments) (net .parent i)
+
+  -- Does a repeater sit at the far end of segment i?
+  unfoldable pub repeated : ℕ → Bool
+  repeated i = some (net .repeaters) (λ r. eqb (net .site r) i)
+
+  -- What f has for the repeater at the far end of segment i; 0 where there is none.
+  unfoldable pub atRepeater : (ℕ → ℕ) → ℕ → ℕ
+  atRepeater f i = sum (net .repeaters) (λ r. cond (eqb (net .site r) i) (f r) 0)
 
 -- Below, x is a sizing: an index for each place.
 module _ (net : Net) (x : List ℕ) where
@@ -45,17 +57,26 @@ module _ (net : Net) (x : List ℕ) where
   abbrev pub ownLoad : ℕ → ℕ
   ownLoad i = capacitance i + net .sink i
 
-  -- The load of a branch: its segment's capacitance, its sink, and the load of its branches.
-  abbrev pub branchLoad : ℕ → ℕ
-  branchLoad i = branch net ownLoad i
+  -- The size of repeater r.
+  abbrev pub repeaterSize : ℕ → ℕ
+  repeaterSize r = at x (net .stages + net .segments + r)
 
-  -- The load of the branches at the node q.
+  -- The load under segment i where its branches have the load l: its sink, which sits before the repeater, and the repeater's gate; where there is no
+  -- repeater, the load of the branches.
+  unfoldable pub under : ℕ → ℕ → ℕ
+  under i l = net .sink i + cond (repeated net i) (atRepeater net (λ r. net .gate (repeaterSize r)) i) l
+
+  -- The load of the branches at the node q: of each branch its segment's capacitance and the load under it.
   abbrev pub branchesLoad : ℕ → ℕ
-  branchesLoad q = branches net ownLoad q
+  branchesLoad q = branchesTo (net .segments) (net .parent) (λ i l. capacitance i + under i l) (net .segments) q
 
-  -- The load under segment i, without the segment itself: its sink and its branches.
+  -- The load under segment i, without the segment itself.
   abbrev pub loadUnder : ℕ → ℕ
-  loadUnder i = net .sink i + branchesLoad (suc i)
+  loadUnder i = under i (branchesLoad (suc i))
+
+  -- The load of a branch: its segment's capacitance and the load under it.
+  abbrev pub branchLoad : ℕ → ℕ
+  branchLoad i = capacitance i + loadUnder i
 
   -- What stage s drives: the gate of the next stage, or the load of the whole tree.
   unfoldable pub stageLoad : ℕ → ℕ
@@ -73,9 +94,13 @@ module _ (net : Net) (x : List ℕ) where
   unfoldable pub segmentDelay : ℕ → ℕ
   segmentDelay i = resistance i * (capacitance i + 2 * loadUnder i)
 
-  -- Twice the delay of the sink at segment i's far end.
+  -- What repeater r contributes to each sink below it: resistance × (own output capacitance + load of the branches).
+  abbrev pub repeaterDelay : ℕ → ℕ
+  repeaterDelay r = net .driverResistance (repeaterSize r) * (net .output (repeaterSize r) + branchesLoad (suc (net .site r)))
+
+  -- Twice the delay of the sink at segment i's far end. A repeater at that end stands behind the sink, so it adds nothing.
   abbrev pub sinkDelay : ℕ → ℕ
-  sinkDelay i = 2 * stagesDelay + path net segmentDelay i
+  sinkDelay i = 2 * stagesDelay + path net segmentDelay i + 2 * above net (atRepeater net repeaterDelay) i
 
   -- The scaled delay: twice the sum over sinks of weight × delay. A segment without a sink has weight 0.
   unfoldable pub delay : ℕ
@@ -89,6 +114,11 @@ module _ (net : Net) (x : List ℕ) where
   unfoldable pub outputsLoad : ℕ
   outputsLoad = sum (net .stages) (λ s. net .output (at x s))
 
-  -- The load figure, a term of the specification: wire capacitance + sinks + gates of stages 1 and up + outputs of all stages, each once.
+  -- The gates and outputs of the repeaters.
+  unfoldable pub repeatersLoad : ℕ
+  repeatersLoad = sum (net .repeaters) (λ r. net .gate (repeaterSize r) + net .output (repeaterSize r))
+
+  -- The load figure, a term of the specification: wire capacitance + sinks + gates of stages 1 and up + outputs of all stages + gates and outputs
+  -- of all repeaters, each once.
   unfoldable pub loadFigure : ℕ
-  loadFigure = sum (net .segments) ownLoad + gatesLoad + outputsLoad
+  loadFigure = sum (net .segments) ownLoad + gatesLoad + outputsLoad + repeatersLoad

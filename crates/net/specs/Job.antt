@@ -2,7 +2,7 @@
 use mathlib.Core.Bool.{Bool, cond, _&&_}
 use mathlib.Core.List.{List}
 use Prim.Native.Nat.{ℕ, zero, suc, _+_, _*_, _-_, _/_}
-use lib.Dec.{eqb}
+use lib.Dec.{eqb, ltb}
 use lib.ListN.{length, getD}
 use Rattle.net.specs.declared.Counts.{Counts}
 
@@ -18,7 +18,7 @@ word b at = byte b at + 256 * byte b (at + 1) + 65536 * byte b (at + 2) + 167772
 abbrev pub records : List ℕ → ℕ
 records b = _/_ (length b) 16
 
--- The kind of record r: 1 a width, 2 a driver size, 3 a stage, 4 a segment.
+-- The kind of record r: 1 a width, 2 a driver size, 3 a stage, 4 a segment, 5 a repeater.
 abbrev pub kind : List ℕ → ℕ → ℕ
 kind b r = byte b (16 * r)
 
@@ -50,11 +50,16 @@ countsOf b =
       sizes = count b 2 (records b);
       stages = count b 3 (records b);
       segments = count b 4 (records b);
+      repeaters = count b 5 (records b);
     }
 
--- How many places there are. A place, a term of the specification, is a stage or a segment: stages first, then segments.
+-- How many places there are. A place, a term of the specification, is a stage, a segment or a repeater: stages first, then segments, then repeaters.
 abbrev pub placesBy : Counts → ℕ
-placesBy c = c .stages + c .segments
+placesBy c = c .stages + c .segments + c .repeaters
+
+-- Of f, g and h the one for the kind of place p: of a stage, a segment or a repeater, by its number within its kind.
+unfoldable pub ofKind : {A : Type 0} → (stages segments : ℕ) (f g h : ℕ → A) → ℕ → A
+ofKind stages segments f g h p = cond (ltb p stages) (f p) (cond (ltb p (stages + segments)) (g (p - stages)) (h (p - (stages + segments))))
 
 -- How many widths layer l has, and where among all widths its first row stands: the rows of layer 1 come behind those of layer 0. A layer byte
 -- above 1, which question 24 refuses, is counted as 1.
@@ -76,6 +81,9 @@ stageAt c s = placeAt c s
 
 abbrev pub segmentAt : Counts → ℕ → ℕ
 segmentAt c i = placeAt c (c .stages + i)
+
+abbrev pub repeaterAt : Counts → ℕ → ℕ
+repeaterAt c r = placeAt c (c .stages + c .segments + r)
 
 -- The fields of width k, counted through both layers.
 abbrev pub rowResistance : List ℕ → ℕ → ℕ
@@ -126,3 +134,13 @@ module _ (c : Counts) (b : List ℕ) where
 
   abbrev pub segmentLayer : ℕ → ℕ
   segmentLayer i = byte b (segmentAt c i + 15)
+
+  -- The fields of repeater r: the segment at whose far end it sits, by its number, and its range.
+  abbrev pub repeaterSegment : ℕ → ℕ
+  repeaterSegment r = byte b (repeaterAt c r + 2)
+
+  abbrev pub repeaterLowest : ℕ → ℕ
+  repeaterLowest r = byte b (repeaterAt c r + 3)
+
+  abbrev pub repeaterHighest : ℕ → ℕ
+  repeaterHighest r = byte b (repeaterAt c r + 4)

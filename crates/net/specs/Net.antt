@@ -1,16 +1,15 @@
 -- The net of a job, free of bytes: what all definitions after this one speak of.
-use mathlib.Core.Bool.{cond}
 use mathlib.Core.List.{List}
 use Prim.Native.Nat.{ℕ, _+_, _*_}
-use lib.Dec.{ltb}
 use Rattle.net.specs.declared.Counts.{Counts}
-use Rattle.net.specs.Job.{byte, countsOf, placeAt, firstRow, rowResistance, rowCapacitance, sizeResistance, sizeGate, sizeOutput, segmentParent, segmentLength, sinkCapacitance, sinkWeight, segmentLayer}
+use Rattle.net.specs.Job.{countsOf, ofKind, firstRow, rowResistance, rowCapacitance, sizeResistance, sizeGate, sizeOutput, stageLowest, stageHighest, segmentParent, segmentLength, sinkCapacitance, sinkWeight, segmentLowest, segmentHighest, segmentLayer, repeaterSegment, repeaterLowest, repeaterHighest}
 
--- An index is the size of a stage's driver or the width of a segment's wire. A node is where branches hang: 0 is the source, `suc i` the far end
--- of segment i, so a parent byte is the node that its segment hangs at.
+-- An index is the size of a stage's or a repeater's driver, or the width of a segment's wire. A node is where branches hang: 0 is the source,
+-- `suc i` the far end of segment i, so a parent byte is the node that its segment hangs at.
 pub record Net : Type 0 where
   pub stages : ℕ
   pub segments : ℕ
+  pub repeaters : ℕ
   -- by place: the lowest and the highest index allowed
   pub lowest : ℕ → ℕ
   pub highest : ℕ → ℕ
@@ -25,10 +24,12 @@ pub record Net : Type 0 where
   pub parent : ℕ → ℕ
   pub sink : ℕ → ℕ
   pub weight : ℕ → ℕ
+  -- by repeater: the segment at whose far end it sits
+  pub site : ℕ → ℕ
 
--- How many places a net has, called P: stages first, then segments, each by its number.
+-- How many places a net has, called P: stages first, then segments, then repeaters, each by its number.
 abbrev pub places : Net → ℕ
-places net = net .stages + net .segments
+places net = net .stages + net .segments + net .repeaters
 
 -- The net that a job describes, by the counts of its records: a segment's resistance at the width k is that of row k of its own layer times its
 -- length, its capacitance likewise.
@@ -37,8 +38,9 @@ netBy c b =
     record {
       stages = c .stages;
       segments = c .segments;
-      lowest = λ p. cond (ltb p (c .stages)) (byte b (placeAt c p + 2)) (byte b (placeAt c p + 13));
-      highest = λ p. cond (ltb p (c .stages)) (byte b (placeAt c p + 3)) (byte b (placeAt c p + 14));
+      repeaters = c .repeaters;
+      lowest = ofKind (c .stages) (c .segments) (stageLowest c b) (segmentLowest c b) (repeaterLowest c b);
+      highest = ofKind (c .stages) (c .segments) (stageHighest c b) (segmentHighest c b) (repeaterHighest c b);
       driverResistance = sizeResistance c b;
       gate = sizeGate c b;
       output = sizeOutput c b;
@@ -47,6 +49,7 @@ netBy c b =
       parent = segmentParent c b;
       sink = sinkCapacitance c b;
       weight = sinkWeight c b;
+      site = repeaterSegment c b;
     }
 
 -- The net of a job.

@@ -1,4 +1,4 @@
--- The questions 1 to 11 and 24, each asked of the whole job, and the first whose answer is no: the section 'The questions' of the specification.
+-- The questions 1 to 11 and 22 to 24, each asked of the whole job, and the first whose answer is no: the section 'The questions' of the specification.
 -- From question 24 on, which is asked after 2, `c` is the counts of the job's records.
 use mathlib.Core.Bool.{Bool, cond, not, _&&_, _||_}
 use mathlib.Core.List.{List, [], _∷_}
@@ -7,7 +7,7 @@ use lib.Dec.{leb, ltb, eqb}
 use lib.ListN.{length}
 use Rattle.lattice.specs.Lists.{every, some}
 use Rattle.net.specs.declared.Counts.{Counts}
-use Rattle.net.specs.Job.{byte, records, kind, countsOf, widthAt, widthLayer, widthsOf, firstRow, sizeAt, stageAt, segmentAt, rowResistance, rowCapacitance, sizeResistance, sizeGate, sizeOutput, stageLowest, stageHighest, segmentParent, segmentSink, segmentLength, sinkCapacitance, sinkWeight, segmentLowest, segmentHighest, segmentLayer}
+use Rattle.net.specs.Job.{byte, records, kind, countsOf, widthAt, widthLayer, widthsOf, firstRow, sizeAt, stageAt, segmentAt, rowResistance, rowCapacitance, sizeResistance, sizeGate, sizeOutput, stageLowest, stageHighest, segmentParent, segmentSink, segmentLength, sinkCapacitance, sinkWeight, segmentLowest, segmentHighest, segmentLayer, repeaterAt, repeaterSegment, repeaterLowest, repeaterHighest}
 
 -- Is v from l to h, both included?
 abbrev pub inRange : ℕ → ℕ → ℕ → Bool
@@ -17,9 +17,9 @@ inRange l h v = leb l v && leb v h
 unfoldable pub question1 : List ℕ → Bool
 question1 b = ltb 0 (length b) && eqb (_%_ (length b) 16) 0
 
--- 2. Is every kind 1 to 4, never falling?
+-- 2. Is every kind 1 to 5, never falling?
 unfoldable pub question2 : List ℕ → Bool
-question2 b = every (records b) (λ r. inRange 1 4 (kind b r)) && every (records b - 1) (λ r. leb (kind b r) (kind b (suc r)))
+question2 b = every (records b) (λ r. inRange 1 5 (kind b r)) && every (records b - 1) (λ r. leb (kind b r) (kind b (suc r)))
 
 -- 24. Is every layer byte 0 or 1, does the layer never fall from one width to the next, and has layer 1 a width where a segment names it?
 unfoldable pub question24 : Counts → List ℕ → Bool
@@ -36,7 +36,8 @@ question3 c =
     && (inRange 0 8 (widthsOf c 1)
     && (inRange 1 16 (c .sizes)
     && (inRange 1 4 (c .stages)
-    && inRange 1 64 (c .segments))))
+    && (inRange 1 64 (c .segments)
+    && inRange 0 8 (c .repeaters)))))
 
 module _ (c : Counts) (b : List ℕ) where
   -- 4. Do numbers count from 0 in each kind, those of widths in each layer?
@@ -45,7 +46,8 @@ module _ (c : Counts) (b : List ℕ) where
       every 2 (λ l. every (widthsOf c l) (λ k. eqb (byte b (widthAt (firstRow c l + k) + 1)) k))
       && (every (c .sizes) (λ k. eqb (byte b (sizeAt c k + 1)) k)
       && (every (c .stages) (λ s. eqb (byte b (stageAt c s + 1)) s)
-      && every (c .segments) (λ i. eqb (byte b (segmentAt c i + 1)) i)))
+      && (every (c .segments) (λ i. eqb (byte b (segmentAt c i + 1)) i)
+      && every (c .repeaters) (λ r. eqb (byte b (repeaterAt c r + 1)) r))))
 
   -- Are the n bytes from `at` on zero?
   unfoldable pub zeros : ℕ → ℕ → Bool
@@ -56,7 +58,8 @@ module _ (c : Counts) (b : List ℕ) where
   question5 =
       every (c .widths) (λ k. zeros (widthAt k + 3) 1 && zeros (widthAt k + 12) 4)
       && (every (c .sizes) (λ k. zeros (sizeAt c k + 2) 2)
-      && every (c .stages) (λ s. zeros (stageAt c s + 4) 12))
+      && (every (c .stages) (λ s. zeros (stageAt c s + 4) 12)
+      && every (c .repeaters) (λ r. zeros (repeaterAt c r + 5) 11)))
 
   -- 6. Are the values of kinds 1 and 2 in range?
   unfoldable pub question6 : Bool
@@ -101,10 +104,23 @@ module _ (c : Counts) (b : List ℕ) where
       && (sinkOrZero i
       && (leb (segmentLowest c b i) (segmentHighest c b i) && ltb (segmentHighest c b i) (widthsOf c (segmentLayer c b i))))))))
 
+  -- Has segment i branches?
+  unfoldable pub hasBranches : ℕ → Bool
+  hasBranches i = some (c .segments) (λ j. eqb (segmentParent c b j) (suc i))
+
   -- 11. Has every segment without branches a sink?
   unfoldable pub question11 : Bool
-  question11 =
-      every (c .segments) (λ i. not (eqb (segmentSink c b i) 0) || some (c .segments) (λ j. eqb (segmentParent c b j) (suc i)))
+  question11 = every (c .segments) (λ i. not (eqb (segmentSink c b i) 0) || hasBranches i)
+
+  -- 22. Is the segment of every repeater there, has it branches, and do the segment numbers strictly rise?
+  unfoldable pub question22 : Bool
+  question22 =
+      every (c .repeaters) (λ r. ltb (repeaterSegment c b r) (c .segments) && hasBranches (repeaterSegment c b r))
+      && every (c .repeaters - 1) (λ r. ltb (repeaterSegment c b r) (repeaterSegment c b (suc r)))
+
+  -- 23. Is every repeater's lowest ≤ highest < count of sizes?
+  unfoldable pub question23 : Bool
+  question23 = every (c .repeaters) (λ r. leb (repeaterLowest c b r) (repeaterHighest c b r) && ltb (repeaterHighest c b r) (c .sizes))
 
 -- A question's number, and whether its answer is yes.
 pub record Question : Type 0 where
@@ -135,6 +151,8 @@ jobQuestions b =
     ∷ ask 9 (question9 c b)
     ∷ ask 10 (question10 c b)
     ∷ ask 11 (question11 c b)
+    ∷ ask 22 (question22 c b)
+    ∷ ask 23 (question23 c b)
     ∷ []
 
 -- The number of the first of them that a job fails; 0 where it passes all.

@@ -7,4 +7,5 @@ pub struct Counts {
     pub sizes: usize,
     pub stages: usize,
     pub segments: usize,
+    pub repeaters: usize,
 }

@@ -8,11 +8,11 @@ ghost use mathlib.Core.Path.{_≡_};
 ghost use mathlib.Core.Bool.{true, false};
 ghost use Prim.Native.Nat.{_<_};
 ghost use Rattle.net.specs.Job.{placesBy};
-ghost use Rattle.net.specs.Net.{netBy};
-ghost use Rattle.net.specs.Checked.{Checked, AllowedBy};
+ghost use Rattle.net.specs.Checked.{Checked, AllowedBy, ForPlaces};
 ghost use Rattle.net.specs.Answers.{measured, refined, chosen};
-ghost use Rattle.links.specs.Links.{LinkedBy};
-ghost use Rattle.operations.specs.Reached.{ReachedAt};
+ghost use Rattle.positions.specs.Arranged.{PlacesInOrder, PositionsOf, NodesOf};
+ghost use Rattle.place.specs.ByCounts.{AllowedInOrder};
+ghost use Rattle.operations.specs.Reached.{ReachedInOrder, ReachedBy};
 ghost use Rattle.operations.specs.Outcomes.{measuredBy, refinedBy, measureRefused, refineRefused, Preferred, fromSecond};
 
 // What measure answers: the figures of the sizing, or the number of the first question that fails.
@@ -60,49 +60,103 @@ pub fn measure(job: &[u8], sizing: &[u8]) -> Measurement
     Measurement::Figures(elmore::figures(job, counts, &first, &next, sizing))
 }
 
-// The best indices at a place of an allowed sizing, and the scaled delay that they reach. With the index at the place the delay changes as what
-// the index costs there, so the net is not evaluated for each.
-fn refine_at(
+// The best indices at a position of an allowed sizing by position, and the scaled delay that they reach. With the index at the position the delay
+// changes as what the index costs there, so the net is not evaluated for each.
+fn refine_in_order(
     job: &[u8],
     counts: Counts,
-    first: &[usize],
-    next: &[usize],
-    sizing: &[u8],
-    place: usize,
+    order: &[usize; 76],
+    hangs: &[usize; 76],
+    held: &[u8],
+    t: usize,
 ) -> EndsAndDelay
     requires { ⌜ Checked counts (now job) ⌝ }
-    requires { ⌜ LinkedBy counts (now job) (now first) (now next) ⌝ }
-    requires { ⌜ AllowedBy counts (now job) (now sizing) ⌝ }
-    requires { ⌜ place < placesBy counts ⌝ }
-    ensures { λ r. ⌜ ReachedAt (netBy counts (now (job .entry))) (now (sizing .entry)) place r ⌝ }
+    requires { ⌜ PlacesInOrder counts (now job) (now order) ⌝ }
+    requires { ⌜ NodesOf counts (now job) (now hangs) ⌝ }
+    requires { ⌜ AllowedInOrder counts (now job) (now held) ⌝ }
+    requires { ⌜ t < placesBy counts ⌝ }
+    ensures { λ r. ⌜ ReachedInOrder counts (now (job .entry)) (now (held .entry)) t r ⌝ }
 {
-    let mut weights = [0u64; 68];
-    weights::weigh(job, counts, first, next, &mut weights);
-    // loads, by place
-    let mut driven = [0u64; 68];
-    place::drive(job, counts, sizing, sizing, &mut driven);
-    // weighted resistances, by place
-    let mut upstream = [0u64; 68];
+    let mut weights = [0u64; 76];
+    weights::weigh(job, counts, order, hangs, &mut weights);
+    // loads, by position
+    let mut driven = [0u64; 76];
+    place::drive(job, counts, order, hangs, held, held, &mut driven);
+    // weighted resistances, by position
+    let mut upstream = [0u64; 76];
     place::go_upstream(
         job,
         counts,
+        order,
+        hangs,
         &weights,
-        sizing,
-        sizing,
+        held,
+        held,
         &mut upstream,
-        place + 1,
+        t + 1,
     );
-    let lent = place::fixed_delay(job, counts, &weights, &driven, sizing, sizing);
-    let weight = weights[place];
-    let before = Resistance(upstream[place]);
-    let load = Capacitance(driven[place]);
-    let ends = refine::settle(job, counts, weight, before, place, load);
-    let own = place::step_at(job, counts, weight, before, place, sizing[place], load).delay;
+    let lent = place::fixed_delay(job, counts, order, &weights, &driven, held, held);
+    let p = order[t];
+    let weight = weights[t];
+    let before = Resistance(upstream[t]);
+    let load = Capacitance(driven[t]);
+    let ends = refine::settle(job, counts, weight, before, p, load);
+    let own = place::step_at(job, counts, weight, before, p, held[t], load).delay;
     EndsAndDelay {
         lowest: ends.lowest,
         highest: ends.highest,
         delay: quantity::exchange(lent, own, ends.cost),
     }
+}
+
+// The same at a place of an allowed sizing, where the tables of the driving order are filled; `held` is lent for the sizing by position.
+fn refine_rearranged(
+    job: &[u8],
+    counts: Counts,
+    order: &[usize; 76],
+    position: &[usize; 76],
+    hangs: &[usize; 76],
+    sizing: &[u8],
+    held: &mut [u8],
+    place: usize,
+) -> EndsAndDelay
+    requires { ⌜ Checked counts (now job) ⌝ }
+    requires { ⌜ PlacesInOrder counts (now job) (now order) ⌝ }
+    requires { ⌜ PositionsOf counts (now job) (now position) ⌝ }
+    requires { ⌜ NodesOf counts (now job) (now hangs) ⌝ }
+    requires { ⌜ AllowedBy counts (now job) (now sizing) ⌝ }
+    requires { ⌜ ForPlaces counts (now held) ⌝ }
+    requires { ⌜ place < placesBy counts ⌝ }
+    ensures { λ r. ⌜ ReachedBy counts (now (job .entry)) (now (sizing .entry)) place r ⌝ }
+{
+    positions::rearrange(sizing, order, held);
+    let t = position[place];
+    refine_in_order(job, counts, order, hangs, held, t)
+}
+
+// The same, where the places are put in order first.
+fn refine_at(job: &[u8], counts: Counts, sizing: &[u8], place: usize) -> EndsAndDelay
+    requires { ⌜ Checked counts (now job) ⌝ }
+    requires { ⌜ AllowedBy counts (now job) (now sizing) ⌝ }
+    requires { ⌜ place < placesBy counts ⌝ }
+    ensures { λ r. ⌜ ReachedBy counts (now (job .entry)) (now (sizing .entry)) place r ⌝ }
+{
+    let mut order = [0usize; 76];
+    let mut position = [0usize; 76];
+    let mut hangs = [0usize; 76];
+    positions::arrange(job, counts, &mut order, &mut position, &mut hangs);
+    let places = counts.stages + counts.segments + counts.repeaters;
+    let mut held = [0u8; 76];
+    refine_rearranged(
+        job,
+        counts,
+        &order,
+        &position,
+        &hangs,
+        sizing,
+        &mut held[..places],
+        place,
+    )
 }
 
 // The best indices at a place, the rest of the sizing held, and the scaled delay that they reach.
@@ -121,12 +175,12 @@ pub fn refine(job: &[u8], sizing: &[u8], place: usize) -> Refinement
     if number != 0 {
         return Refinement::Refused(number);
     }
-    let places = counts.stages + counts.segments;
+    let places = counts.stages + counts.segments + counts.repeaters;
     if places <= place {
         return Refinement::Refused(17);
     }
     let held = &sizing[..places];
-    Refinement::Best(refine_at(job, counts, &first, &next, held, place))
+    Refinement::Best(refine_at(job, counts, held, place))
 }
 
 // The one of two sizings that has the smaller delay, at a tie the first, and its P.
@@ -146,7 +200,7 @@ pub fn prefer(job: &[u8], x: &[u8], y: &[u8]) -> Preference
     if allowed::sizing_number(job, counts, y) != 0 {
         return Preference::Neither;
     }
-    let places = counts.stages + counts.segments;
+    let places = counts.stages + counts.segments + counts.repeaters;
     let of_x = elmore::delay(job, counts, &first, &next, x);
     let of_y = elmore::delay(job, counts, &first, &next, y);
     if of_x.0 <= of_y.0 {

@@ -26,21 +26,21 @@ use Rattle.size.specs.Numbers.{Settled}
 use Rattle.output.specs.Printed.{Figures, indexText, placeLine, kindLines, placeLines, netFigures, netLines, refusedLine, answerText, jobNumber, jobText, printed, replyOf, replied, told, Holds}
 use Rattle.output.specs.Lines.{field, figuresIn, placeLinesIn, answerTextIn}
 
--- A reply of the largest net has 552 bytes, so a buffer of 552 bytes holds every reply.
-few-places : (job : List ℕ) → refusal job ≡ 0 → places (netOf job) ≤ 68
-few-places job e = let k = checked job e in omega (arith, k .fewStages, k .fewSegments)
+-- A reply of the largest net has 616 bytes, so a buffer of 616 bytes holds every reply.
+few-places : (job : List ℕ) → refusal job ≡ 0 → places (netOf job) ≤ 76
+few-places job e = let k = checked job e in omega (arith, k .fewStages, k .fewSegments, k .fewRepeaters)
 
-pub number-in-552 : (job : List ℕ) → sizeNumber job 552 ≡ jobNumber job
+pub number-in-616 : (job : List ℕ) → sizeNumber job 616 ≡ jobNumber job
 unfolding jobNumber
-number-in-552 job = go (ℕ-discrete (refusal job) 0)
+number-in-616 job = go (ℕ-discrete (refusal job) 0)
   where
-    go : Dec (refusal job ≡ 0) → sizeNumber job 552 ≡ sizeNumber job (replyLength (netOf job))
+    go : Dec (refusal job ≡ 0) → sizeNumber job 616 ≡ sizeNumber job (replyLength (netOf job))
     go (yes e) =
         let h = few-places job e in
-        size-passes job 552 e
-        ∙ rw (le-leb (replyLength (netOf job)) 552 (omega arith))
+        size-passes job 616 e
+        ∙ rw (le-leb (replyLength (netOf job)) 616 (omega arith))
         (sym (size-passes job (replyLength (netOf job)) e ∙ rw (le-leb (replyLength (netOf job)) (replyLength (netOf job)) (omega arith))))
-    go (no z) = size-fails job 552 z ∙ sym (size-fails job (replyLength (netOf job)) z)
+    go (no z) = size-fails job 616 z ∙ sym (size-fails job (replyLength (netOf job)) z)
 
 -- Eight bytes, the lowest first, as two words.
 value-step : (l : List ℕ) (k n : ℕ) → k < length l → valueOf (take (suc n) (drop k l)) ≡ at l k + 256 * valueOf (take n (drop (suc k) l))
@@ -87,9 +87,9 @@ module _ (known : Bool) (n : ℕ) (f g : Figures) (s : Agree known n f g) where
       let k : p + i < n = omega arith in
       rw (s .lower (p + i) k, s .upper (p + i) k, index-same known (f .lean (p + i)) (g .lean (p + i)) (s .lean (p + i) k), index-same known (f .wide (p + i)) (g .wide (p + i)) (s .wide (p + i) k)))
 
-  places-same : (stages segments : ℕ) → stages + segments ≤ n → placeLines known f stages segments ≡ placeLines known g stages segments
+  places-same : (stages segments repeaters : ℕ) → stages + segments + repeaters ≤ n → placeLines known f stages segments repeaters ≡ placeLines known g stages segments repeaters
   unfolding placeLines
-  places-same stages segments h = rw (kind-same (ascii "stage ") 0 stages (omega arith), kind-same (ascii "segment ") stages segments h)
+  places-same stages segments repeaters h = rw (kind-same (ascii "stage ") 0 stages (omega arith), kind-same (ascii "segment ") stages segments (omega arith), kind-same (ascii "repeater ") (stages + segments) repeaters h)
 
 -- The figures in a reply.
 field-is : (net : Net) (after x : List ℕ) (j : ℕ) → replyBytes j net after ≡ x → (p : ℕ) → p < places net → field after j p ≡ at x p
@@ -131,7 +131,7 @@ module _ (job before : List ℕ) where
       let net : Net = netOf job in
       let d : List ℕ = drop (replyLength net) before in
       rw (buffer-finished job before e, finished-delay net d (least-fits job (replied-passes job (length before) (inl e) .0)))
-      (rw (places-same true (places net) (figuresIn (finishedReply net ++ d)) (netFigures net) (finished-agree job (replied-passes job (length before) (inl e) .0) d) (net .stages) (net .segments) (omega arith)))
+      (rw (places-same true (places net) (figuresIn (finishedReply net ++ d)) (netFigures net) (finished-agree job (replied-passes job (length before) (inl e) .0) d) (net .stages) (net .segments) (net .repeaters) (omega arith)))
 
   -- with the number 14
   pub bounds-lines : sizeNumber job (length before) ≡ 14 → placeLinesIn (sizeBuffer job before) false (countsOf job) ≡ netLines false (netOf job)
@@ -140,12 +140,12 @@ module _ (job before : List ℕ) where
       let net : Net = netOf job in
       let d : List ℕ = drop (replyLength net) before in
       rw (buffer-bounds job before e)
-      (places-same false (places net) (figuresIn (boundsReply net ++ d)) (netFigures net) (bounds-agree job (replied-passes job (length before) (inr e) .0) d) (net .stages) (net .segments) (omega arith))
+      (places-same false (places net) (figuresIn (boundsReply net ++ d)) (netFigures net) (bounds-agree job (replied-passes job (length before) (inr e) .0) d) (net .stages) (net .segments) (net .repeaters) (omega arith))
 
--- What an input of at most 65,536 bytes comes to, where `after` is what size has made of a buffer of 552 bytes, with the number n and the counts c.
+-- What an input of at most 65,536 bytes comes to, where `after` is what size has made of a buffer of 616 bytes, with the number n and the counts c.
 pub record Sized (input before : List ℕ) (n : ℕ) (c : Counts) (after : List ℕ) : Type 0 where
   pub short : length input ≤ 65536
-  pub long : length before ≡ 552
+  pub long : length before ≡ 616
   pub number : n ≡ sizeNumber input (length before)
   pub buffer : after ≡ sizeBuffer input before
   pub counted : refusal input ≡ 0 → c ≡ countsOf input
@@ -170,12 +170,12 @@ module _ (input : List ℕ) (h : 65536 < length input) where
 
 module _ {input before after : List ℕ} {n : ℕ} {c : Counts} where
   -- what the contract of `size_and_counts` gives
-  pub sized : length input ≤ 65536 → length before ≡ 552 → Settled input before n after → (refusal input ≡ 0 → c ≡ countsOf input) → Sized input before n c after
+  pub sized : length input ≤ 65536 → length before ≡ 616 → Settled input before n after → (refusal input ≡ 0 → c ≡ countsOf input) → Sized input before n c after
   sized h l e k = record { short = h; long = l; number = e .0; buffer = e .1 .0; counted = k }
 
 module _ {input before after : List ℕ} {n : ℕ} {c : Counts} (s : Sized input before n c after) where
   is-number : jobNumber input ≡ n
-  is-number = sym (s .number ∙ ap (sizeNumber input) (s .long) ∙ number-in-552 input)
+  is-number = sym (s .number ∙ ap (sizeNumber input) (s .long) ∙ number-in-616 input)
 
   job-printed : printed input ≡ jobText input n
   unfolding printed
@@ -196,7 +196,7 @@ module _ {input before after : List ℕ} {n : ℕ} {c : Counts} (s : Sized input
   counts-are : Replied n → c ≡ countsOf input
   counts-are r = s .counted (passes r)
 
-  pub few : Replied n → c .stages + c .segments ≤ 68
+  pub few : Replied n → c .stages + c .segments + c .repeaters ≤ 76
   few r = rw (counts-are r) (few-places input (passes r))
 
   -- with the number 0
@@ -205,7 +205,7 @@ module _ {input before after : List ℕ} {n : ℕ} {c : Counts} (s : Sized input
     unfolding jobText
     answer-printed = rw (counts-are (inl e), job-printed, e, s .buffer) (answer-lines input before (sym (s .number) ∙ e))
 
-    pub answer-reply : (m : ℕ) → m ≡ 8 * suc (c .stages + c .segments) → Holds (replied input) before after m
+    pub answer-reply : (m : ℕ) → m ≡ 8 * suc (c .stages + c .segments + c .repeaters) → Holds (replied input) before after m
     unfolding replyOf
     answer-reply m f =
         let l : m ≡ replyLength (netOf input) = rw (counts-are (inl e)) at f in
@@ -225,7 +225,7 @@ module _ {input before after : List ℕ} {n : ℕ} {c : Counts} (s : Sized input
     unfolding jobText
     bounds-printed = rw (counts-are (inr e), job-printed, e, s .buffer, bounds-lines input before (sym (s .number) ∙ e))
 
-    pub bounds-reply : (m : ℕ) → m ≡ 8 * suc (c .stages + c .segments) → Holds (replied input) before after m
+    pub bounds-reply : (m : ℕ) → m ≡ 8 * suc (c .stages + c .segments + c .repeaters) → Holds (replied input) before after m
     unfolding replyOf
     bounds-reply m f =
         let l : m ≡ replyLength (netOf input) = rw (counts-are (inr e)) at f in

@@ -76,7 +76,7 @@ module _ (reply : List ℕ) (known : Bool) (kind : List ℕ) (p n : ℕ) where
   -- out has all lines up to place p + i, and next is the position behind them.
   pub record Lined (out₀ : List ℕ) (at : ℕ) (out : List ℕ) (next i : ℕ) : Type 0 where
     pub upTo : i ≤ n
-    pub near : next ≤ at + 113 * i
+    pub near : next ≤ at + 114 * i
     pub left : Left out₀ at (kindLinesIn reply known kind p n) out next (linesFrom lineIn n i)
 
   module _ (out₀ : List ℕ) (at : ℕ) where
@@ -85,7 +85,7 @@ module _ (reply : List ℕ) (known : Bool) (kind : List ℕ) (p n : ℕ) where
     lined-start = record { upTo = omega arith; near = omega arith; left = rw (← lines-start lineIn n) (left-start out₀ at _) }
 
     module _ (out : List ℕ) (next i : ℕ) (l : Lined out₀ at out next i) where
-      pub lined-step : (out′ : List ℕ) (next′ : ℕ) → i < n → Wrote out next (lineRead i) out′ next′ → next′ ≤ next + 113 → Lined out₀ at out′ next′ (i + 1)
+      pub lined-step : (out′ : List ℕ) (next′ : ℕ) → i < n → Wrote out next (lineRead i) out′ next′ → next′ ≤ next + 114 → Lined out₀ at out′ next′ (i + 1)
       lined-step out′ next′ h w k =
           record {
             upTo = omega arith;

@@ -26,7 +26,7 @@ abbrev pub kindLinesIn : List ℕ → Bool → List ℕ → ℕ → ℕ → List
 kindLinesIn reply known kind p n = kindLines known (figuresIn reply) kind p n
 
 abbrev pub placeLinesIn : List ℕ → Bool → Counts → List ℕ
-placeLinesIn reply known c = placeLines known (figuresIn reply) (c .stages) (c .segments)
+placeLinesIn reply known c = placeLines known (figuresIn reply) (c .stages) (c .segments) (c .repeaters)
 
 -- The lines of an answer by the bytes of a reply.
 abbrev pub answerTextIn : List ℕ → Counts → List ℕ

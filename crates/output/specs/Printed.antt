@@ -37,16 +37,19 @@ unfoldable pub kindLines : Bool → Figures → List ℕ → (p n : ℕ) → Lis
 kindLines known f kind p n =
     flatMap (λ i. placeLine known kind i (f .lower (p + i)) (f .upper (p + i)) (f .lean (p + i)) (f .wide (p + i))) (from 0 n)
 
--- The lines of all places: stages first, then segments.
-unfoldable pub placeLines : Bool → Figures → (stages segments : ℕ) → List ℕ
-placeLines known f stages segments = kindLines known f (ascii "stage ") 0 stages ++ kindLines known f (ascii "segment ") stages segments
+-- The lines of all places: stages first, then segments, then repeaters.
+unfoldable pub placeLines : Bool → Figures → (stages segments repeaters : ℕ) → List ℕ
+placeLines known f stages segments repeaters =
+    kindLines known f (ascii "stage ") 0 stages
+    ++ kindLines known f (ascii "segment ") stages segments
+    ++ kindLines known f (ascii "repeater ") (stages + segments) repeaters
 
 -- The figures of a net's places, and their lines, with lean and wide where they are known.
 abbrev pub netFigures : Net → Figures
 netFigures net = record { lower = at (lowerBound net); upper = at (upperBound net); lean = at (lean net); wide = at (wide net) }
 
 unfoldable pub netLines : Bool → Net → List ℕ
-netLines known net = placeLines known (netFigures net) (net .stages) (net .segments)
+netLines known net = placeLines known (netFigures net) (net .stages) (net .segments) (net .repeaters)
 
 -- The line of a refusal.
 unfoldable pub refusedLine : ℕ → List ℕ

@@ -34,9 +34,9 @@ fn put_index_then(out: &mut [u8], at: usize, index: u8, known: bool, word: &[u8]
 
 // Puts the start of a place's line: its kind, number and bounds.
 fn put_bounds(out: &mut [u8], at: usize, kind: &[u8], number: u64, lower: u8, upper: u8) -> usize
-    requires { ⌜ (at < 2 ^ 32) × (length (now kind) ≤ 8) ⌝ }
+    requires { ⌜ (at < 2 ^ 32) × (length (now kind) ≤ 9) ⌝ }
     ensures { λ r. ⌜ Wrote (now (out .entry)) at (boundsText (now (kind .entry)) number lower upper) (now (out .exit)) r ⌝ }
-    ensures { λ r. ⌜ r ≤ at + 71 ⌝ }
+    ensures { λ r. ⌜ r ≤ at + 72 ⌝ }
 {
     let named = text::put_bytes(out, at, kind);
     let numbered = text::put_number_then(out, named, number, b" ");
@@ -56,9 +56,9 @@ fn put_place(
     lean: u8,
     wide: u8,
 ) -> usize
-    requires { ⌜ (at < 2 ^ 32) × (length (now kind) ≤ 8) ⌝ }
+    requires { ⌜ (at < 2 ^ 32) × (length (now kind) ≤ 9) ⌝ }
     ensures { λ r. ⌜ Wrote (now (out .entry)) at (placeLine known (now (kind .entry)) number lower upper lean wide) (now (out .exit)) r ⌝ }
-    ensures { λ r. ⌜ r ≤ at + 113 ⌝ }
+    ensures { λ r. ⌜ r ≤ at + 114 ⌝ }
 {
     let bounded = put_bounds(out, at, kind, number, lower, upper);
     let next = put_index_then(out, bounded, lean, known, b" ");
@@ -69,15 +69,15 @@ fn put_place(
 fn put_kind(
     out: &mut [u8],
     at: usize,
-    reply: &[u8; 552],
+    reply: &[u8; 616],
     known: bool,
     kind: &[u8],
     p: usize,
     n: usize,
 ) -> usize
-    requires { ⌜ (at < 2 ^ 31) × (length (now kind) ≤ 8) × (p + n ≤ 68) ⌝ }
+    requires { ⌜ (at < 2 ^ 31) × (length (now kind) ≤ 9) × (p + n ≤ 76) ⌝ }
     ensures { λ r. ⌜ Wrote (now (out .entry)) at (kindLinesIn (now (reply .entry)) known (now (kind .entry)) p n) (now (out .exit)) r ⌝ }
-    ensures { λ r. ⌜ r ≤ at + 113 * n ⌝ }
+    ensures { λ r. ⌜ r ≤ at + 114 * n ⌝ }
 {
     let mut next = at;
     let mut i = 0;
@@ -101,13 +101,13 @@ fn put_kind(
 }
 
 // Puts the lines of all places.
-fn put_places(out: &mut [u8], at: usize, reply: &[u8; 552], known: bool, counts: Counts) -> usize
-    requires { ⌜ (at < 2 ^ 30) × (placesBy counts ≤ 68) ⌝ }
+fn put_places(out: &mut [u8], at: usize, reply: &[u8; 616], known: bool, counts: Counts) -> usize
+    requires { ⌜ (at < 2 ^ 30) × (placesBy counts ≤ 76) ⌝ }
     ensures { λ r. ⌜ Wrote (now (out .entry)) at (placeLinesIn (now (reply .entry)) known counts) (now (out .exit)) r ⌝ }
-    ensures { λ r. ⌜ r ≤ at + 7684 ⌝ }
+    ensures { λ r. ⌜ r ≤ at + 8664 ⌝ }
 {
     let next = put_kind(out, at, reply, known, b"stage ", 0, counts.stages);
-    put_kind(
+    let after = put_kind(
         out,
         next,
         reply,
@@ -115,11 +115,20 @@ fn put_places(out: &mut [u8], at: usize, reply: &[u8; 552], known: bool, counts:
         b"segment ",
         counts.stages,
         counts.segments,
+    );
+    put_kind(
+        out,
+        after,
+        reply,
+        known,
+        b"repeater ",
+        counts.stages + counts.segments,
+        counts.repeaters,
     )
 }
 
 // The delay in the first record of a reply, the lowest byte first.
-fn delay(reply: &[u8; 552]) -> Delay
+fn delay(reply: &[u8; 616]) -> Delay
     ensures { λ r. ⌜ r .0 ≡ replyDelay (now (reply .entry)) ⌝ }
 {
     let number = job::word_at(reply, 0) + 4294967296 * job::word_at(reply, 4);
@@ -127,10 +136,10 @@ fn delay(reply: &[u8; 552]) -> Delay
 }
 
 // Puts the lines of an answer, by the bytes of a finished reply.
-fn put_answer(out: &mut [u8], reply: &[u8; 552], counts: Counts) -> usize
-    requires { ⌜ placesBy counts ≤ 68 ⌝ }
+fn put_answer(out: &mut [u8], reply: &[u8; 616], counts: Counts) -> usize
+    requires { ⌜ placesBy counts ≤ 76 ⌝ }
     ensures { λ r. ⌜ Wrote (now (out .entry)) 0 (answerTextIn (now (reply .entry)) counts) (now (out .exit)) r ⌝ }
-    ensures { λ r. ⌜ r ≤ 7720 ⌝ }
+    ensures { λ r. ⌜ r ≤ 8700 ⌝ }
 {
     let start = text::put_bytes(out, 0, b"answer 0\ndelay ");
     let least = delay(reply);
@@ -148,14 +157,14 @@ fn put_refusal(out: &mut [u8], number: usize) -> usize
 }
 
 // Puts what the sizing program prints for an input, and answers its length.
-pub fn print(input: &[u8], out: &mut [u8; 8192]) -> usize
+pub fn print(input: &[u8], out: &mut [u8; 9216]) -> usize
     ensures text { λ r. ⌜ Holds (printed (now (input .entry))) (now (out .entry)) (now (out .exit)) r ⌝ }
     ensures within { λ r. ⌜ Within r (now (out .exit)) ⌝ }
 {
     if 65536 < input.len() {
         return text::put_bytes(out, 0, b"too long\n");
     }
-    let mut reply = [0u8; 552];
+    let mut reply = [0u8; 616];
     let sized = size::size_and_counts(input, &mut reply);
     let counts = sized.counts;
     if sized.number == 0 {
@@ -170,14 +179,14 @@ pub fn print(input: &[u8], out: &mut [u8; 8192]) -> usize
 
 // How many bytes the reply of a job has.
 fn reply_length(counts: Counts) -> usize
-    requires { ⌜ placesBy counts ≤ 68 ⌝ }
+    requires { ⌜ placesBy counts ≤ 76 ⌝ }
     ensures { λ r. ⌜ r ≡ 8 * suc (placesBy counts) ⌝ }
 {
-    8 * (1 + (counts.stages + counts.segments))
+    8 * (1 + (counts.stages + counts.segments + counts.repeaters))
 }
 
 // Puts the reply of a job, where there is one, and the line that is told beside it, where it is not answered.
-pub fn reply(input: &[u8], out: &mut [u8; 552], line: &mut [u8; 32]) -> Lengths
+pub fn reply(input: &[u8], out: &mut [u8; 616], line: &mut [u8; 32]) -> Lengths
     ensures reply { λ r. ⌜ Holds (replied (now (input .entry))) (now (out .entry)) (now (out .exit)) (r .reply) ⌝ }
     ensures line { λ r. ⌜ Holds (told (now (input .entry))) (now (line .entry)) (now (line .exit)) (r .line) ⌝ }
     ensures within { λ r. ⌜ Within (r .reply) (now (out .exit)) × Within (r .line) (now (line .exit)) ⌝ }

@@ -8,9 +8,8 @@ use borrow.Author.Tests.{lt-ltb, le-ltb, eq-eqb, ne-eqb}
 use lib.Dec.{eqb, ltb}
 use Rattle.lattice.specs.Lists.{sum}
 use Rattle.lattice.proofs.ListLaws.{sum-le}
-use Rattle.net.proofs.Sum.{sum-same, sum-add, sum-zero, sum-bounded}
+use Rattle.net.proofs.Sum.{sum-same, sum-add, sum-zero, sum-at, sum-bounded}
 use Rattle.place.specs.Held.{sumAfter}
-use Rattle.place.proofs.Held.{sum-at}
 
 module _ (n : ℕ) (f : ℕ → ℕ) where
   pub after-none : sumAfter n f n ≡ 0

@@ -1,8 +1,4 @@
 pub mod Steps
-pub mod Weights
-pub mod Behind
-pub mod Held
-pub mod OnePlace
 pub mod Upstream
 pub mod After
 pub mod Gathering

@@ -1,4 +1,5 @@
-// What one place adds to the scaled delay, from what is known of the places after it, and what all held places add.
+// What one place adds to the scaled delay, from what is known of the places that it drives, and what all held places add. A place is a driver or a
+// wire; tables and sizings go by position.
 use net::Counts;
 use quantity::Capacitance;
 use quantity::Delay;
@@ -8,27 +9,16 @@ ghost use Prim.Native.Nat.{_+_, _*_, _^_, _<_, _≤_};
 ghost use lib.ListN.{length};
 ghost use Rattle.lattice.specs.Lists.{at};
 ghost use Rattle.net.specs.Job.{firstRow, segmentLength, segmentLayer, placesBy};
-ghost use Rattle.net.specs.Net.{netBy};
-ghost use Rattle.net.specs.Places.{loadAt};
-ghost use Rattle.net.specs.Checked.{Checked, AllowedBy};
-ghost use Rattle.place.specs.ByCounts.{Weighed, HangsAt, SinkAt, DriveInLimits, rowsAt, LengthAt, IndexAndWeight, SlopeAt, StepInLimits, Stepped, Driven, fixedDelay, onwardFrom, upstreamOf, Upstream, StageInLimits, SegmentInLimits, ChargeInLimits, Charged};
+ghost use Rattle.net.specs.Driving.{loadAt};
+ghost use Rattle.net.specs.Order.{placedBy};
+ghost use Rattle.net.specs.Checked.{Checked};
+ghost use Rattle.positions.specs.Arranged.{PlacesInOrder, NodesOf};
+ghost use Rattle.place.specs.ByCounts.{Weighed, AllowedInOrder, SinkAt, DriveInLimits, rowsAt, LengthAt, IndexAndWeight, SlopeAt, StepInLimits, Stepped, Driven, fixedDelay, onwardFrom, upstreamOf, Upstream, DriverInLimits, DriverStepped, SegmentInLimits, ChargeInLimits, Charged};
 
 // What a place adds at one of its indices: its part of the scaled delay with what its load costs upstream, and the load that it shows.
 pub struct PlaceStep {
     pub delay: Delay,
     pub load: Capacitance,
-}
-
-// The node that place p hangs at.
-pub fn hangs_at(job: &[u8], counts: Counts, p: usize) -> usize
-    requires { ⌜ Checked counts (now job) ⌝ }
-    requires { ⌜ p < placesBy counts ⌝ }
-    ensures { λ r. ⌜ HangsAt counts (now (job .entry)) p r ⌝ }
-{
-    if p < counts.stages {
-        return p;
-    }
-    counts.stages + job::parent(job, counts, p - counts.stages)
 }
 
 // The sink at the far end of place p.
@@ -37,7 +27,7 @@ fn sink_at(job: &[u8], counts: Counts, p: usize) -> Capacitance
     requires { ⌜ p < placesBy counts ⌝ }
     ensures { λ r. ⌜ SinkAt counts (now (job .entry)) p (r .0) ⌝ }
 {
-    if p < counts.stages {
+    if job::is_driver(counts, p) {
         return Capacitance(0);
     }
     job::sink(job, counts, p - counts.stages)
@@ -47,34 +37,45 @@ fn sink_at(job: &[u8], counts: Counts, p: usize) -> Capacitance
 fn shown_load(job: &[u8], counts: Counts, p: usize, k: u8, driven: Capacitance) -> Capacitance
     requires { ⌜ Checked counts (now job) ⌝ }
     requires { ⌜ DriveInLimits counts (now job) p k (driven .0) ⌝ }
-    ensures { λ r. ⌜ r .0 ≡ loadAt (netBy counts (now (job .entry))) p k (driven .0) ⌝ }
+    ensures { λ r. ⌜ r .0 ≡ loadAt (placedBy counts (now (job .entry))) p k (driven .0) ⌝ }
 {
     let index = job::index(k);
-    if p < counts.stages {
+    if job::is_driver(counts, p) {
         return job::gate(job, counts, index);
     }
     let wire = job::wire_at(job, counts, p - counts.stages, index);
     quantity::add_capacitance(wire.capacitance, driven)
 }
 
-// What the places drive where free places show no load, in one pass from the last place to the first.
-pub fn drive(job: &[u8], counts: Counts, lower: &[u8], upper: &[u8], driven: &mut [u64; 68])
+// What the places drive where free places show no load, in one pass from the last position to the first.
+pub fn drive(
+    job: &[u8],
+    counts: Counts,
+    order: &[usize; 76],
+    hangs: &[usize; 76],
+    lower: &[u8],
+    upper: &[u8],
+    driven: &mut [u64; 76],
+)
     requires { ⌜ Checked counts (now job) ⌝ }
-    requires { ⌜ AllowedBy counts (now job) (now lower) ⌝ }
+    requires { ⌜ PlacesInOrder counts (now job) (now order) ⌝ }
+    requires { ⌜ NodesOf counts (now job) (now hangs) ⌝ }
+    requires { ⌜ AllowedInOrder counts (now job) (now lower) ⌝ }
     requires { ⌜ placesBy counts ≤ length (now upper) ⌝ }
     requires { ⌜ placesBy counts ≤ length (now driven) ⌝ }
     ensures { λ r. ⌜ Driven counts (now (job .entry)) (now (lower .entry)) (now (upper .entry)) (now (driven .exit)) ⌝ }
 {
     // by node
-    let mut gathered = [Capacitance(0); 69];
-    let mut p = counts.stages + counts.segments;
-    while p > 0 {
-        p -= 1;
-        let load = quantity::add_capacitance(sink_at(job, counts, p), gathered[p + 1]);
-        driven[p] = load.0;
-        if lower[p] >= upper[p] {
-            let shown = shown_load(job, counts, p, lower[p], load);
-            let node = hangs_at(job, counts, p);
+    let mut gathered = [Capacitance(0); 77];
+    let mut t = counts.stages + counts.segments + counts.repeaters;
+    while t > 0 {
+        t -= 1;
+        let p = order[t];
+        let load = quantity::add_capacitance(sink_at(job, counts, p), gathered[t + 1]);
+        driven[t] = load.0;
+        if lower[t] >= upper[t] {
+            let shown = shown_load(job, counts, p, lower[t], load);
+            let node = hangs[t];
             gathered[node] = quantity::add_capacitance(gathered[node], shown);
         }
     }
@@ -87,7 +88,7 @@ fn slope(job: &[u8], counts: Counts, weight: u64, p: usize, k: u8) -> Resistance
     ensures { λ r. ⌜ SlopeAt counts (now (job .entry)) p k (r .0) ⌝ }
 {
     let index = job::index(k);
-    if p < counts.stages {
+    if job::is_driver(counts, p) {
         let driver = job::driver_resistance(job, counts, index);
         return quantity::weighted_resistance(weight, driver);
     }
@@ -95,19 +96,21 @@ fn slope(job: &[u8], counts: Counts, weight: u64, p: usize, k: u8) -> Resistance
     quantity::weighted_resistance(2 * weight, wire.resistance)
 }
 
-// What the delay grows by with each unit of load behind place a.
+// What the delay grows by with each unit of load behind position a.
 fn onward(
     job: &[u8],
     counts: Counts,
-    weights: &[u64; 68],
+    order: &[usize; 76],
+    weights: &[u64; 76],
     lower: &[u8],
     upper: &[u8],
-    upstream: &[u64; 68],
+    upstream: &[u64; 76],
     a: usize,
 ) -> Resistance
     requires { ⌜ Checked counts (now job) ⌝ }
+    requires { ⌜ PlacesInOrder counts (now job) (now order) ⌝ }
     requires { ⌜ Weighed counts (now job) (now weights) ⌝ }
-    requires { ⌜ AllowedBy counts (now job) (now lower) ⌝ }
+    requires { ⌜ AllowedInOrder counts (now job) (now lower) ⌝ }
     requires { ⌜ placesBy counts ≤ length (now upper) ⌝ }
     requires { ⌜ (a < placesBy counts) × (at (now upstream) a ≤ a * 6528000000) ⌝ }
     ensures { λ r. ⌜ r .0 ≡ onwardFrom counts (now (job .entry)) (now (lower .entry)) (now (upper .entry)) (now (upstream .entry)) a ⌝ }
@@ -115,61 +118,89 @@ fn onward(
     if lower[a] < upper[a] {
         return Resistance(0);
     }
-    let own = slope(job, counts, weights[a], a, lower[a]);
-    if a < counts.stages {
+    let p = order[a];
+    let own = slope(job, counts, weights[a], p, lower[a]);
+    if job::is_driver(counts, p) {
         return own;
     }
     quantity::add_resistance(own, Resistance(upstream[a]))
 }
 
-// The weighted upstream resistance of place p, from those of the places before it.
+// The weighted upstream resistance of position t, from those of the positions before it.
 pub fn upstream_at(
     job: &[u8],
     counts: Counts,
-    weights: &[u64; 68],
+    order: &[usize; 76],
+    hangs: &[usize; 76],
+    weights: &[u64; 76],
     lower: &[u8],
     upper: &[u8],
-    upstream: &[u64; 68],
-    p: usize,
+    upstream: &[u64; 76],
+    t: usize,
 ) -> Resistance
     requires { ⌜ Checked counts (now job) ⌝ }
+    requires { ⌜ PlacesInOrder counts (now job) (now order) ⌝ }
+    requires { ⌜ NodesOf counts (now job) (now hangs) ⌝ }
     requires { ⌜ Weighed counts (now job) (now weights) ⌝ }
-    requires { ⌜ AllowedBy counts (now job) (now lower) ⌝ }
+    requires { ⌜ AllowedInOrder counts (now job) (now lower) ⌝ }
     requires { ⌜ placesBy counts ≤ length (now upper) ⌝ }
-    requires { ⌜ p < placesBy counts ⌝ }
-    requires { ⌜ Upstream counts (now job) (now lower) (now upper) p (now upstream) ⌝ }
-    ensures { λ r. ⌜ r .0 ≡ upstreamOf counts (now (job .entry)) (now (lower .entry)) (now (upper .entry)) (now (upstream .entry)) p ⌝ }
+    requires { ⌜ t < placesBy counts ⌝ }
+    requires { ⌜ Upstream counts (now job) (now lower) (now upper) t (now upstream) ⌝ }
+    ensures { λ r. ⌜ r .0 ≡ upstreamOf counts (now (job .entry)) (now (lower .entry)) (now (upper .entry)) (now (upstream .entry)) t ⌝ }
 {
-    let node = hangs_at(job, counts, p);
+    let node = hangs[t];
     if node == 0 {
         return Resistance(0);
     }
-    onward(job, counts, weights, lower, upper, upstream, node - 1)
+    onward(
+        job,
+        counts,
+        order,
+        weights,
+        lower,
+        upper,
+        upstream,
+        node - 1,
+    )
 }
 
-// The weighted upstream resistances of the first n places.
+// The weighted upstream resistances of the first n positions.
 pub fn go_upstream(
     job: &[u8],
     counts: Counts,
-    weights: &[u64; 68],
+    order: &[usize; 76],
+    hangs: &[usize; 76],
+    weights: &[u64; 76],
     lower: &[u8],
     upper: &[u8],
-    upstream: &mut [u64; 68],
+    upstream: &mut [u64; 76],
     n: usize,
 )
     requires { ⌜ Checked counts (now job) ⌝ }
+    requires { ⌜ PlacesInOrder counts (now job) (now order) ⌝ }
+    requires { ⌜ NodesOf counts (now job) (now hangs) ⌝ }
     requires { ⌜ Weighed counts (now job) (now weights) ⌝ }
-    requires { ⌜ AllowedBy counts (now job) (now lower) ⌝ }
+    requires { ⌜ AllowedInOrder counts (now job) (now lower) ⌝ }
     requires { ⌜ placesBy counts ≤ length (now upper) ⌝ }
     requires { ⌜ n ≤ placesBy counts ⌝ }
     requires { ⌜ placesBy counts ≤ length (now upstream) ⌝ }
     ensures { λ r. ⌜ Upstream counts (now (job .entry)) (now (lower .entry)) (now (upper .entry)) n (now (upstream .exit)) ⌝ }
 {
-    let mut p = 0;
-    while p < n {
-        let before = upstream_at(job, counts, weights, lower, upper, upstream, p);
-        upstream[p] = before.0;
-        p += 1;
+    let mut t = 0;
+    while t < n {
+        let before = upstream_at(
+            job,
+            counts,
+            order,
+            hangs,
+            weights,
+            lower,
+            upper,
+            upstream,
+            t,
+        );
+        upstream[t] = before.0;
+        t += 1;
     }
 }
 
@@ -184,19 +215,18 @@ fn charged_upstream(upstream: Resistance, own: Delay, load: Capacitance) -> Plac
     }
 }
 
-// The step of stage s to the size k, where it drives the load `driven`.
-fn stage_step(
+// The step of a driver to the size k, where it drives the load `driven`.
+fn driver_step(
     job: &[u8],
     counts: Counts,
     weight: u64,
     upstream: Resistance,
-    s: usize,
     k: usize,
     driven: Capacitance,
 ) -> PlaceStep
     requires { ⌜ Checked counts (now job) ⌝ }
-    requires { ⌜ StageInLimits counts weight (upstream .0) s k (driven .0) ⌝ }
-    ensures { λ r. ⌜ Stepped counts (now (job .entry)) weight (upstream .0) s k (driven .0) r ⌝ }
+    requires { ⌜ DriverInLimits counts weight (upstream .0) k (driven .0) ⌝ }
+    ensures { λ r. ⌜ DriverStepped counts (now (job .entry)) weight (upstream .0) k (driven .0) r ⌝ }
 {
     let resistance = job::driver_resistance(job, counts, k);
     let charged = quantity::add_capacitance(job::output(job, counts, k), driven);
@@ -249,8 +279,8 @@ pub fn step_to(
     requires { ⌜ StepInLimits counts (now job) weight (upstream .0) p k (driven .0) ⌝ }
     ensures { λ r. ⌜ Stepped counts (now (job .entry)) weight (upstream .0) p k (driven .0) r ⌝ }
 {
-    if p < counts.stages {
-        return stage_step(job, counts, weight, upstream, p, k, driven);
+    if job::is_driver(counts, p) {
+        return driver_step(job, counts, weight, upstream, k, driven);
     }
     segment_step(
         job,
@@ -319,25 +349,28 @@ pub fn step_at(
 pub fn fixed_delay(
     job: &[u8],
     counts: Counts,
-    weights: &[u64; 68],
-    driven: &[u64; 68],
+    order: &[usize; 76],
+    weights: &[u64; 76],
+    driven: &[u64; 76],
     lower: &[u8],
     upper: &[u8],
 ) -> Delay
     requires { ⌜ Checked counts (now job) ⌝ }
+    requires { ⌜ PlacesInOrder counts (now job) (now order) ⌝ }
     requires { ⌜ Weighed counts (now job) (now weights) ⌝ }
     requires { ⌜ Driven counts (now job) (now lower) (now upper) (now driven) ⌝ }
-    requires { ⌜ AllowedBy counts (now job) (now lower) ⌝ }
+    requires { ⌜ AllowedInOrder counts (now job) (now lower) ⌝ }
     requires { ⌜ placesBy counts ≤ length (now upper) ⌝ }
     ensures { λ r. ⌜ r .0 ≡ fixedDelay counts (now (job .entry)) (now (lower .entry)) (now (upper .entry)) (now (driven .entry)) ⌝ }
 {
     let mut sum = Delay(0);
-    let mut p = counts.stages + counts.segments;
-    while p > 0 {
-        p -= 1;
-        if lower[p] >= upper[p] {
-            let load = Capacitance(driven[p]);
-            let step = step_at(job, counts, weights[p], Resistance(0), p, lower[p], load);
+    let mut t = counts.stages + counts.segments + counts.repeaters;
+    while t > 0 {
+        t -= 1;
+        if lower[t] >= upper[t] {
+            let p = order[t];
+            let load = Capacitance(driven[t]);
+            let step = step_at(job, counts, weights[t], Resistance(0), p, lower[t], load);
             sum = quantity::add_delay(sum, step.delay);
         }
     }

@@ -12,14 +12,14 @@ use Rattle.lattice.proofs.ListLaws.{and-T, every-at}
 use Rattle.net.specs.declared.Counts.{Counts}
 use Rattle.net.specs.Job.{records, countsOf, widthsOf, segmentParent}
 use Rattle.net.specs.Net.{netBy}
-use Rattle.net.specs.Questions.{inRange, question1, question2, question24, question3, question4, question5, question6, question7, question8, question9, question10, question11, Question, ask, firstNo, jobQuestions, refusal}
+use Rattle.net.specs.Questions.{inRange, question1, question2, question24, question3, question4, question5, question6, question7, question8, question9, question10, Question, ask, firstNo, jobQuestions, refusal}
 use Rattle.net.specs.Checked.{Held}
 use Rattle.net.proofs.Records.{records-fill, counts-small, layer0-small, counts-held}
 use Rattle.net.proofs.Questions.{in-range, checked}
 use Rattle.links.specs.Links.{Parents, Linked}
 use Rattle.questions.specs.declared.Outcome.{Outcome}
 use Rattle.runs.specs.Records.{countsTo}
-use Rattle.questions.specs.Check.{CheckOf, Linkable, Asked, questionsFrom7, questionsFrom24, Counted}
+use Rattle.questions.specs.Check.{CheckOf, Linkable, Asked, questionsFrom11, questionsFrom7, questionsFrom24, Counted}
 
 -- r is the answer to the question q, the first of those that are left: yes, and a later one decides; or no
 pub yes : (m : ℕ) (qs : List Question) {q r : Bool} {n : ℕ} → r ≡ q → not r ≡ false → n ≡ firstNo qs → n ≡ firstNo (ask m q ∷ qs)
@@ -42,8 +42,9 @@ in-counts c {r} e t =
     let v = and-T (inRange 1 8 (widthsOf c 0)) _ y in
     let w = and-T (inRange 0 8 (widthsOf c 1)) _ (v .1) in
     let s = and-T (inRange 1 16 (c .sizes)) _ (w .1) in
-    let g = and-T (inRange 1 4 (c .stages)) (inRange 1 64 (c .segments)) (s .1) in
-    (in-range 1 4 _ (g .0) .0, in-range 1 64 _ (g .1) .1)
+    let g = and-T (inRange 1 4 (c .stages)) _ (s .1) in
+    let i = and-T (inRange 1 64 (c .segments)) (inRange 0 8 (c .repeaters)) (g .1) in
+    (in-range 1 4 _ (g .0) .0, in-range 1 64 _ (i .0) .1)
 
 pub some-counted : {c : Counts} {b : List ℕ} {r : Bool} → Held c b → r ≡ question3 c → not r ≡ false → Counted c b
 some-counted {c} {b} {r} h e t =
@@ -85,10 +86,6 @@ unfolding firstNo
 passed n true qs e = (refl, e)
 passed n false qs e = absurd (omega arith)
 
-last : (q : Bool) → cond q 0 11 ≡ firstNo (ask 11 q ∷ [])
-unfolding firstNo
-last q = refl
-
 refused : (b : List ℕ) (r : Outcome) (n : ℕ) → r .records ≡ records b → r .number ≡ suc n → suc n ≡ refusal b → Asked b r
 refused b r n g e f = record { records = g; fails = λ h. e ∙ f; passes = λ z. absurd (omega (arith, e, z)) }
 
@@ -108,7 +105,7 @@ module _ (b : List ℕ) {p : Bool} (one : p ≡ question1 b) where
       c = countsOf b
 
       linkable : firstNo (questionsFrom24 c b) ≡ 0 → Linkable c b
-      unfolding questionsFrom24 questionsFrom7 refusal jobQuestions
+      unfolding questionsFrom24 questionsFrom7 questionsFrom11 refusal jobQuestions
       linkable e =
           let a24 = passed 23 (question24 c b) _ e in
           let a3 = passed 2 (question3 c) _ (a24 .1) in
@@ -124,13 +121,13 @@ module _ (b : List ℕ) {p : Bool} (one : p ≡ question1 b) where
             held = counts-held b;
             few = in-counts c (a3 .0) refl .1;
             parents = parents c b (a9 .0);
-            decides = yes _ _ one t (yes _ _ two u (yes _ _ (a24 .0) refl (yes _ _ (a3 .0) refl (yes _ _ (a4 .0) refl (yes _ _ (a5 .0) refl (yes _ _ (a6 .0) refl (yes _ _ (a7 .0) refl (yes _ _ (a8 .0) refl (yes _ _ (a9 .0) refl (yes _ _ (a10 .0) refl (last (question11 c b))))))))))));
+            decides = yes _ _ one t (yes _ _ two u (yes _ _ (a24 .0) refl (yes _ _ (a3 .0) refl (yes _ _ (a4 .0) refl (yes _ _ (a5 .0) refl (yes _ _ (a6 .0) refl (yes _ _ (a7 .0) refl (yes _ _ (a8 .0) refl (yes _ _ (a9 .0) refl (yes _ _ (a10 .0) refl refl))))))))));
           }
 
       later : (n : ℕ) → n ≡ firstNo (questionsFrom24 c b) → (n ≡ 0 → ⊥) → n ≡ refusal b
-      unfolding questionsFrom24 questionsFrom7 refusal jobQuestions
+      unfolding questionsFrom24 questionsFrom7 questionsFrom11 refusal jobQuestions
       later zero e h = absurd (h refl)
-      later (suc n) e h = yes _ _ one t (yes _ _ two u (found (questionsFrom24 c b) (ask 11 (question11 c b) ∷ []) n e))
+      later (suc n) e h = yes _ _ one t (yes _ _ two u (found (questionsFrom24 c b) (questionsFrom11 c b) n e))
 
       pub asked-from-24 : (d : Counts) (n m : ℕ) → m ≡ records b → d ≡ countsOf b → n ≡ firstNo (questionsFrom24 d b) → Asked b (record { number = n; records = m; counts = d })
       asked-from-24 d n m g e f = rw e record { records = g; fails = later n (rw e at f); passes = λ z. linkable (sym (rw e at f) ∙ z) }
@@ -144,14 +141,9 @@ module _ {b : List ℕ} {r : Outcome} (a : Asked b r) {first next : List ℕ} wh
   pub check-early : (r .number ≡ 0 → ⊥) → CheckOf b r first next
   check-early h = record { number = a .fails h; records = a .records; filled = filled a; passed = λ e. absurd (h e); linked = λ e. absurd (h e) }
 
-  module _ (z : r .number ≡ 0) {p : Bool} (e : p ≡ question11 (r .counts) b) where
-    pub check-eleven : not p ≡ true → CheckOf b (record { number = 11; records = r .records; counts = r .counts }) first next
-    check-eleven t =
-        let f : question11 (r .counts) b ≡ false = sym e ∙ not-true p t in
-        record { number = rw f at (a .passes z .decides); records = a .records; filled = filled a; passed = λ n. absurd (omega (arith, n)); linked = λ n. absurd (omega (arith, n)) }
-
-    pub check-passed : not p ≡ false → Linked (netBy (r .counts) b) first next → CheckOf b r first next
-    check-passed t l =
-        let f : question11 (r .counts) b ≡ true = sym e ∙ not-false p t in
-        let d = rw f at (a .passes z .decides) in
-        record { number = z ∙ d; records = a .records; filled = filled a; passed = λ n. rw (a .passes z .counted) (checked b (sym d)); linked = λ n. l }
+  pub check-linked : r .number ≡ 0 → (n : ℕ) → n ≡ firstNo (questionsFrom11 (r .counts) b) → Linked (netBy (r .counts) b) first next
+      → CheckOf b (record { number = n; records = r .records; counts = r .counts }) first next
+  check-linked z n e l =
+      let k = a .passes z in
+      let d : n ≡ refusal b = e ∙ k .decides in
+      record { number = d; records = a .records; filled = filled a; passed = λ m. rw (k .counted) (checked b (sym d ∙ m)); linked = λ m. l }

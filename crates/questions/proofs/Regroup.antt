@@ -13,11 +13,11 @@ use lib.ListN.{length}
 use Rattle.lattice.specs.Lists.{every}
 use Rattle.net.specs.declared.Counts.{Counts}
 use Rattle.net.specs.Job.{byte, records, widthAt, widthLayer, widthsOf, firstRow, segmentAt, segmentSink, segmentLength, sinkCapacitance, segmentLayer}
-use Rattle.net.specs.Questions.{inRange, question1, question2, question24, question3, question4, zeros, sinkOrZero, question5, question6, question7, question8, question9, question10}
+use Rattle.net.specs.Questions.{inRange, question1, question2, question24, question3, question4, zeros, sinkOrZero, question5, question6, question7, question8, question9, question10, question23}
 use Rattle.runs.specs.Records.{byteOf, byteInOrder, numberInOrder, zeroBytes, byteWithin, wordWithin, rowsInOrder, rangeWithin, segmentFits, parentInOrder}
 use Rattle.net.proofs.Records.{layer-0, layer-1}
-use Rattle.questions.specs.Check.{topLayer}
-use Rattle.questions.proofs.Zeros.{zero-word, zero-words}
+use Rattle.questions.specs.Check.{topLayer, repeatersZero}
+use Rattle.questions.proofs.Zeros.{zero-word, zero-words, zero-behind}
 use Rattle.lattice.proofs.Every.{every-and, every-same}
 
 both : {p q r s : Bool} → p ≡ r → q ≡ s → p && q ≡ r && s
@@ -26,6 +26,13 @@ both e f = ap₂ _&&_ e f
 -- two tests of one run
 two : (n : ℕ) (f g : ℕ → Bool) {p q : Bool} → p ≡ every n f → q ≡ every n g → p && q ≡ every n (λ k. f k && g k)
 two n f g e h = both e h ∙ sym (every-and n f g)
+
+-- Where among all records the repeaters start.
+abbrev pub firstRepeater : Counts → ℕ
+firstRepeater c = c .widths + c .sizes + (c .stages + c .segments)
+
+pub repeater-at : (c : Counts) (k : ℕ) → firstRepeater c + k ≡ c .widths + c .sizes + (c .stages + c .segments + k)
+repeater-at c k = add-assoc (c .widths + c .sizes) (c .stages + c .segments) k
 
 module _ (b : List ℕ) where
   -- the length is sixteen times the count of whole records exactly where nothing is left over
@@ -37,7 +44,7 @@ module _ (b : List ℕ) where
       go (yes z) = rw (eq-eqb (16 * n) (length b) (omega (arith, div-add-mod' (length b) 16)), eq-eqb (_%_ (length b) 16) 0 z)
       go (no z) = rw (ne-eqb (16 * n) (length b) (λ f. z (omega (arith, div-add-mod' (length b) 16))), ne-eqb (_%_ (length b) 16) 0 z)
 
-  pub question2-by : (n : ℕ) {p : Bool} → n ≡ records b → p ≡ every n (byteWithin b 0 0 1 4) && every (n - 1) (byteInOrder b 0) → p ≡ question2 b
+  pub question2-by : (n : ℕ) {p : Bool} → n ≡ records b → p ≡ every n (byteWithin b 0 0 1 5) && every (n - 1) (byteInOrder b 0) → p ≡ question2 b
   unfolding question2
   question2-by n m e =
       rw m at e
@@ -55,10 +62,10 @@ module _ (c : Counts) where
   pub top-0 : c .widths ≤ c .layer0 → 0 ≡ topLayer c
   top-0 h = let l : widthsOf c 1 ≤ 0 = omega (arith, others) in rw (le-ltb 0 (widthsOf c 1) l)
 
-  pub question3-by : (s : Bool) → s ≡ inRange 1 16 (c .sizes) && (inRange 1 4 (c .stages) && inRange 1 64 (c .segments))
+  pub question3-by : (s : Bool) → s ≡ inRange 1 16 (c .sizes) && (inRange 1 4 (c .stages) && (inRange 1 64 (c .segments) && leb (c .repeaters) 8))
       → inRange 1 8 (c .layer0) && (leb (c .widths - c .layer0) 8 && s) ≡ question3 c
   unfolding question3
-  question3-by s e = rw (layer-0 c .0, others, leb·zero (c .widths - c .layer0), e)
+  question3-by s e = rw (layer-0 c .0, others, leb·zero (c .widths - c .layer0), leb·zero (c .repeaters), e)
 
 -- a layer byte is at most the highest layer that has widths: it is 0 or 1, and 1 only where there are
 named-layer : (z : Bool) (l : ℕ) → inRange 0 (cond z 1 0) l ≡ inRange 0 1 l && (not (eqb l 1) || z)
@@ -98,22 +105,31 @@ module _ (c : Counts) (b : List ℕ) where
       (e ∙ both (every-same _ _ _ (λ k h. rw (zero-add k))) (every-same _ _ _ (λ k h. rw (add-one k, zero-add k, zero-add (suc k)))))
       (f ∙ every-same _ _ _ (λ i h. rw (d, add-assoc (c .widths + c .sizes) (c .stages) i) (named-layer (ltb 0 (widthsOf c 1)) (segmentLayer c b i))) ∙ every-and (c .segments) known held)
 
-  pub question4-by : {p q r s t : Bool} → p ≡ every (c .layer0) (numberInOrder b 0) → q ≡ every (c .widths - c .layer0) (numberInOrder b (c .layer0))
+  pub question4-by : {p q r s t u : Bool} → p ≡ every (c .layer0) (numberInOrder b 0) → q ≡ every (c .widths - c .layer0) (numberInOrder b (c .layer0))
       → r ≡ every (c .sizes) (numberInOrder b (c .widths)) → s ≡ every (c .stages) (numberInOrder b (c .widths + c .sizes))
-      → t ≡ every (c .segments) (numberInOrder b (c .widths + c .sizes + c .stages)) → p && q && (r && (s && t)) ≡ question4 c b
+      → t ≡ every (c .segments) (numberInOrder b (c .widths + c .sizes + c .stages))
+      → u ≡ every (c .repeaters) (numberInOrder b (firstRepeater c)) → p && q && (r && (s && (t && u))) ≡ question4 c b
   unfolding question4
-  question4-by {p} {q} d e f g h =
+  question4-by {p} {q} d e f g h i =
       both (both-layers (λ l. every (widthsOf c l) (λ k. eqb (byte b (widthAt (firstRow c l + k) + 1)) k)) p q (rw (layer-0 c .0, layer-0 c .1) d) (rw (others c, layer-1 c 1 (λ z. omega (arith, z)) .1) e))
-      (both f (both g (h ∙ every-same _ _ _ (λ k l. rw (add-assoc (c .widths + c .sizes) (c .stages) k)))))
+      (both f (both g
+      (both (h ∙ every-same _ _ _ (λ k l. rw (add-assoc (c .widths + c .sizes) (c .stages) k)))
+      (i ∙ every-same _ _ _ (λ k l. rw (repeater-at c k))))))
 
-  pub question5-by : {p q r s t u : Bool} → p ≡ every (c .widths) (zeroBytes b 0 3 1) → q ≡ every (c .widths) (wordWithin b 0 12 0 0)
+  pub repeaters-zero-by : {p q r : Bool} → p ≡ every (c .repeaters) (zeroBytes b (firstRepeater c) 5 3)
+      → q ≡ every (c .repeaters) (wordWithin b (firstRepeater c) 8 0 0) → r ≡ every (c .repeaters) (wordWithin b (firstRepeater c) 12 0 0)
+      → p && (q && r) ≡ repeatersZero c b
+  unfolding zeros
+  repeaters-zero-by d e f = two _ _ _ d (two _ _ _ e f) ∙ every-same _ _ _ (λ k m. zero-behind b (firstRepeater c) k ∙ rw (repeater-at c k))
+
+  pub question5-by : {p q r s t u v : Bool} → p ≡ every (c .widths) (zeroBytes b 0 3 1) → q ≡ every (c .widths) (wordWithin b 0 12 0 0)
       → r ≡ every (c .sizes) (zeroBytes b (c .widths) 2 2) → s ≡ every (c .stages) (wordWithin b (c .widths + c .sizes) 4 0 0)
       → t ≡ every (c .stages) (wordWithin b (c .widths + c .sizes) 8 0 0) → u ≡ every (c .stages) (wordWithin b (c .widths + c .sizes) 12 0 0)
-      → p && q && (r && (s && (t && u))) ≡ question5 c b
+      → v ≡ repeatersZero c b → p && q && (r && (s && (t && u) && v)) ≡ question5 c b
   unfolding question5 zeros
-  question5-by d e f g h i =
+  question5-by d e f g h i j =
       both (two _ _ _ d (e ∙ every-same _ _ _ (λ k m. zero-word b 0 12 k)) ∙ every-same _ _ _ (λ k m. rw (zero-add k)))
-      (both f (two _ _ _ g (two _ _ _ h i) ∙ every-same _ _ _ (λ k m. zero-words b (c .widths + c .sizes) k)))
+      (both f (both (two _ _ _ g (two _ _ _ h i) ∙ every-same _ _ _ (λ k m. zero-words b (c .widths + c .sizes) k)) j))
 
   pub question6-by : {p q r s t : Bool} → p ≡ every (c .widths) (wordWithin b 0 4 1 100) → q ≡ every (c .widths) (wordWithin b 0 8 1 100)
       → r ≡ every (c .sizes) (wordWithin b (c .widths) 4 1 100000) → s ≡ every (c .sizes) (wordWithin b (c .widths) 8 1 100000)
@@ -151,3 +167,7 @@ module _ (c : Counts) (b : List ℕ) where
 
       regrouped : (s t u v : Bool) → s && (t && u) && v ≡ s && (t && (u && v))
       regrouped s t u v = rw (and-assoc, and-assoc)
+
+  pub question23-by : {p : Bool} → p ≡ every (c .repeaters) (rangeWithin b (firstRepeater c) 3 (c .sizes)) → p ≡ question23 c b
+  unfolding question23
+  question23-by d = d ∙ every-same _ _ _ (λ k l. rw (repeater-at c k))

@@ -55,20 +55,26 @@ module _ (b : List ℕ) where
   word-zero : (p : ℕ) → inRange 0 0 (word b p) ≡ every 4 (zeroAt p)
   word-zero p = same-test _ _ (bytes-of-zero p) (zero-of-bytes p)
 
-  -- four bytes, and n behind them
-  zeros-join : (p q n : ℕ) → p + 4 ≡ q → every 4 (zeroAt p) && every n (zeroAt q) ≡ every (4 + n) (zeroAt p)
-  zeros-join p q n e =
-      ap (λ t. every 4 (zeroAt p) && t) (every-same n (zeroAt q) (λ i. zeroAt p (4 + i)) (λ i h. let f : q + i ≡ p + (4 + i) = omega arith in rw f))
-      ∙ every-join 4 n (zeroAt p)
+  -- m bytes, and n behind them
+  zeros-join : (p q m n : ℕ) → p + m ≡ q → every m (zeroAt p) && every n (zeroAt q) ≡ every (m + n) (zeroAt p)
+  zeros-join p q m n e =
+      ap (λ t. every m (zeroAt p) && t) (every-same n (zeroAt q) (λ i. zeroAt p (m + i)) (λ i h. let f : q + i ≡ p + (m + i) = omega arith in rw f))
+      ∙ every-join m n (zeroAt p)
 
-  -- three words, one behind the other
-  words-zero : (p q r : ℕ) → p + 4 ≡ q → q + 4 ≡ r
-      → inRange 0 0 (word b p) && (inRange 0 0 (word b q) && inRange 0 0 (word b r)) ≡ every 12 (zeroAt p)
-  words-zero p q r e f = ap₂ _&&_ (word-zero p) (ap₂ _&&_ (word-zero q) (word-zero r) ∙ zeros-join q r 4 f) ∙ zeros-join p q 8 e
+  -- two words, one behind the other
+  words-zero : (p q : ℕ) → p + 4 ≡ q → inRange 0 0 (word b p) && inRange 0 0 (word b q) ≡ every 8 (zeroAt p)
+  words-zero p q e = ap₂ _&&_ (word-zero p) (word-zero q) ∙ zeros-join p q 4 4 e
 
-  -- The word at `at` of a record, and its last three words.
+  -- The word at `at` of a record, its last three words, and its last two with the three bytes before them.
   pub zero-word : (start at k : ℕ) → wordWithin b start at 0 0 k ≡ zeroBytes b start at 4 k
   zero-word start at k = word-zero (16 * (start + k) + at)
 
   pub zero-words : (start k : ℕ) → wordWithin b start 4 0 0 k && (wordWithin b start 8 0 0 k && wordWithin b start 12 0 0 k) ≡ zeroBytes b start 4 12 k
-  zero-words start k = let p : ℕ = 16 * (start + k) in words-zero (p + 4) (p + 8) (p + 12) (omega arith) (omega arith)
+  zero-words start k =
+      let p : ℕ = 16 * (start + k) in
+      ap₂ _&&_ (word-zero (p + 4)) (words-zero (p + 8) (p + 12) (omega arith)) ∙ zeros-join (p + 4) (p + 8) 4 8 (omega arith)
+
+  pub zero-behind : (start k : ℕ) → zeroBytes b start 5 3 k && (wordWithin b start 8 0 0 k && wordWithin b start 12 0 0 k) ≡ zeroBytes b start 5 11 k
+  zero-behind start k =
+      let p : ℕ = 16 * (start + k) in
+      ap (λ t. zeroBytes b start 5 3 k && t) (words-zero (p + 8) (p + 12) (omega arith)) ∙ zeros-join (p + 5) (p + 8) 3 8 (omega arith)

@@ -1,14 +1,15 @@
 -- What the contracts of `check` and of its parts say.
 use mathlib.Core.Path.{_≡_}
-use mathlib.Core.Bool.{true, cond}
+use mathlib.Core.Bool.{Bool, true, cond}
 use mathlib.Core.List.{List, [], _∷_}
-use Prim.Native.Nat.{ℕ, _*_, _≤_, _<_}
+use Prim.Native.Nat.{ℕ, _+_, _*_, _≤_, _<_}
 use lib.Dec.{ltb}
 use lib.ListN.{length, getD}
+use Rattle.lattice.specs.Lists.{every}
 use Rattle.net.specs.declared.Counts.{Counts}
-use Rattle.net.specs.Job.{records, countsOf, widthsOf}
+use Rattle.net.specs.Job.{records, countsOf, widthsOf, repeaterAt}
 use Rattle.net.specs.Net.{Net, netBy}
-use Rattle.net.specs.Questions.{question1, question24, question3, question4, question5, question6, question7, question8, question9, question10, question11, Question, ask, refusal}
+use Rattle.net.specs.Questions.{question1, question24, question3, question4, zeros, question5, question6, question7, question8, question9, question10, question11, question22, question23, Question, ask, firstNo, refusal}
 use Rattle.net.specs.Checked.{Held, Checked}
 use Rattle.links.specs.Links.{Parents, First, Linked}
 use Rattle.questions.specs.declared.Outcome.{Outcome}
@@ -22,13 +23,17 @@ pub record CheckOf (job : List ℕ) (r : Outcome) (first next : List ℕ) : Type
   pub passed : r .number ≡ 0 → Checked (r .counts) job
   pub linked : r .number ≡ 0 → Linked (netBy (r .counts) job) first next
 
--- The job passes questions 1 to 10 and 24: what linking asks, and that question 11 decides.
+-- Questions 11, 22 and 23: those that are asked of linked segments.
+unfoldable pub questionsFrom11 : Counts → List ℕ → List Question
+questionsFrom11 c b = ask 11 (question11 c b) ∷ ask 22 (question22 c b) ∷ ask 23 (question23 c b) ∷ []
+
+-- The job passes questions 1 to 10 and 24: what linking asks, and that those asked of linked segments decide.
 pub record Linkable (c : Counts) (b : List ℕ) : Type 0 where
   pub counted : c ≡ countsOf b
   pub held : Held c b
   pub few : c .segments ≤ 64
   pub parents : Parents (netBy c b)
-  pub decides : cond (question11 c b) 0 11 ≡ refusal b
+  pub decides : firstNo (questionsFrom11 c b) ≡ refusal b
 
 -- The number is that of the first question that the job fails, or 0 where it passes 1 to 10 and 24; the count is that of the job's records.
 pub record Asked (job : List ℕ) (r : Outcome) : Type 0 where
@@ -46,6 +51,10 @@ questionsFrom24 c b = ask 24 (question24 c b) ∷ ask 3 (question3 c) ∷ ask 4 
 -- The highest layer that has widths.
 abbrev pub topLayer : Counts → ℕ
 topLayer c = cond (ltb 0 (widthsOf c 1)) 1 0
+
+-- Are the unnamed bytes of the repeaters zero?
+abbrev pub repeatersZero : Counts → List ℕ → Bool
+repeatersZero c b = every (c .repeaters) (λ r. zeros c b (repeaterAt c r + 5) 11)
 
 -- The records that are counted are there, and at least one stage.
 pub record Counted (c : Counts) (b : List ℕ) : Type 0 where

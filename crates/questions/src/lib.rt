@@ -1,4 +1,4 @@
-// Questions 1 to 11 and 24, asked of a job of any length, in time linear in it. Within a question all tests are asked, by `&`: a proof then has
+// Questions 1 to 11 and 22 to 24, asked of a job of any length, in time linear in it. Within a question all tests are asked, by `&`: a proof then has
 // one way through it.
 use net::Counts;
 ghost use mathlib.Core.Path.{_≡_};
@@ -6,9 +6,9 @@ ghost use Prim.Native.Nat.{_<_, _≤_};
 ghost use lib.ListN.{length};
 ghost use Rattle.net.specs.Job.{records};
 ghost use Rattle.net.specs.Net.{netBy};
-ghost use Rattle.net.specs.Questions.{question1, question2, question24, question3, question4, question5, question6, question7, question8, question9, question10, question11, firstNo};
+ghost use Rattle.net.specs.Questions.{question1, question2, question24, question3, question4, question5, question6, question7, question8, question9, question10, question11, question22, question23, firstNo};
 ghost use Rattle.net.specs.Checked.{Held};
-ghost use Rattle.questions.specs.Check.{CheckOf, Asked, topLayer, questionsFrom7, questionsFrom24, Counted, Firsts};
+ghost use Rattle.questions.specs.Check.{CheckOf, Asked, topLayer, repeatersZero, questionsFrom11, questionsFrom7, questionsFrom24, Counted, Firsts};
 
 // The number of the first question that a job fails, 0 where it passes all; the count of its records; and, where it passes all, their counts by
 // kind.
@@ -26,12 +26,12 @@ fn question1(job: &[u8], n: usize) -> bool
     (0 < job.len()) & (16 * n == job.len())
 }
 
-// Question 2, of n records: is every kind 1 to 4, never falling?
+// Question 2, of n records: is every kind 1 to 5, never falling?
 fn question2(job: &[u8], n: usize) -> bool
     requires { ⌜ (n ≡ records (now job)) × (1 ≤ n) ⌝ }
     ensures { λ r. ⌜ r ≡ question2 (now (job .entry)) ⌝ }
 {
-    runs::bytes_in_order(job, n, 0, 1, 4)
+    runs::bytes_in_order(job, n, 0, 1, 5)
 }
 
 // The highest layer that has widths.
@@ -67,7 +67,8 @@ fn question3(counts: Counts) -> bool
     let sizes = (1 <= counts.sizes) & (counts.sizes <= 16);
     let stages = (1 <= counts.stages) & (counts.stages <= 4);
     let segments = (1 <= counts.segments) & (counts.segments <= 64);
-    first & (second & (sizes & (stages & segments)))
+    let repeaters = counts.repeaters <= 8;
+    first & (second & (sizes & (stages & (segments & repeaters))))
 }
 
 // Question 4: do numbers count from 0 in each kind, those of widths in each layer?
@@ -81,7 +82,21 @@ fn question4(job: &[u8], counts: Counts) -> bool
     let sizes = runs::numbers_in_order(job, counts.widths, counts.sizes);
     let stages = runs::numbers_in_order(job, places, counts.stages);
     let segments = runs::numbers_in_order(job, places + counts.stages, counts.segments);
-    (first & second) & (sizes & (stages & segments))
+    let start = places + (counts.stages + counts.segments);
+    let repeaters = runs::numbers_in_order(job, start, counts.repeaters);
+    (first & second) & (sizes & (stages & (segments & repeaters)))
+}
+
+// Are the unnamed bytes of the repeaters zero: the last three of the second word, and the two words behind it?
+fn repeaters_zero(job: &[u8], counts: Counts) -> bool
+    requires { ⌜ Held counts (now job) ⌝ }
+    ensures { λ r. ⌜ r ≡ repeatersZero counts (now (job .entry)) ⌝ }
+{
+    let start = counts.widths + counts.sizes + (counts.stages + counts.segments);
+    let second = runs::bytes_zero(job, start, counts.repeaters, 5, 3);
+    let third = runs::words_within(job, start, counts.repeaters, 8, 0, 0);
+    let fourth = runs::words_within(job, start, counts.repeaters, 12, 0, 0);
+    second & (third & fourth)
 }
 
 // Question 5: are all unnamed bytes zero?
@@ -97,7 +112,8 @@ fn question5(job: &[u8], counts: Counts) -> bool
     let third = runs::words_within(job, places, counts.stages, 8, 0, 0);
     let fourth = runs::words_within(job, places, counts.stages, 12, 0, 0);
     let stages = second & (third & fourth);
-    (before & behind) & (sizes & stages)
+    let repeaters = repeaters_zero(job, counts);
+    (before & behind) & (sizes & (stages & repeaters))
 }
 
 // Question 6: are the values of kinds 1 and 2 in range?
@@ -169,6 +185,43 @@ fn question11(job: &[u8], counts: Counts, first: &[usize]) -> bool
     runs::sinks_or_branches(job, first, start, counts.segments)
 }
 
+// Question 22: is the segment of every repeater there, has it branches, and do the segment numbers strictly rise?
+fn question22(job: &[u8], counts: Counts, first: &[usize]) -> bool
+    requires { ⌜ Held counts (now job) ⌝ }
+    requires { ⌜ Firsts (netBy counts (now job)) (now first) ⌝ }
+    ensures { λ r. ⌜ r ≡ question22 counts (now (job .entry)) ⌝ }
+{
+    let start = counts.widths + counts.sizes + (counts.stages + counts.segments);
+    runs::repeaters_sited(job, first, start, counts.repeaters, counts.segments)
+}
+
+// Question 23: is every repeater's lowest ≤ highest < count of sizes?
+fn question23(job: &[u8], counts: Counts) -> bool
+    requires { ⌜ Held counts (now job) ⌝ }
+    ensures { λ r. ⌜ r ≡ question23 counts (now (job .entry)) ⌝ }
+{
+    let start = counts.widths + counts.sizes + (counts.stages + counts.segments);
+    runs::ranges_within(job, start, counts.repeaters, 3, counts.sizes)
+}
+
+// The number of the first of questions 11, 22 and 23 that a job fails, 0 where it passes them.
+fn questions_from_11(job: &[u8], counts: Counts, first: &[usize]) -> usize
+    requires { ⌜ Held counts (now job) ⌝ }
+    requires { ⌜ Firsts (netBy counts (now job)) (now first) ⌝ }
+    ensures { λ r. ⌜ r ≡ firstNo (questionsFrom11 counts (now (job .entry))) ⌝ }
+{
+    if !question11(job, counts, first) {
+        return 11;
+    }
+    if !question22(job, counts, first) {
+        return 22;
+    }
+    if !question23(job, counts) {
+        return 23;
+    }
+    0
+}
+
 // The number of the first of questions 7 to 10 that a job fails, 0 where it passes them.
 fn questions_from_7(job: &[u8], counts: Counts) -> usize
     requires { ⌜ Counted counts (now job) ⌝ }
@@ -225,6 +278,7 @@ fn uncounted(number: usize, n: usize) -> Outcome
             sizes: 0,
             stages: 0,
             segments: 0,
+            repeaters: 0,
         },
     }
 }
@@ -262,12 +316,10 @@ pub fn check(job: &[u8], first: &mut [usize], next: &mut [usize]) -> Outcome
     }
     let counts = outcome.counts;
     links::link(job, counts, first, next);
-    if !question11(job, counts, first) {
-        return Outcome {
-            number: 11,
-            records: outcome.records,
-            counts: counts,
-        };
+    let number = questions_from_11(job, counts, first);
+    Outcome {
+        number: number,
+        records: outcome.records,
+        counts: counts,
     }
-    outcome
 }

@@ -3,7 +3,7 @@ use net::Counts;
 use quantity::Capacitance;
 use quantity::Delay;
 use quantity::Resistance;
-ghost use Rattle.net.specs.Net.{netBy};
+ghost use Rattle.net.specs.Order.{placedBy};
 ghost use Rattle.net.specs.Checked.{Checked};
 ghost use Rattle.refine.specs.Settled.{SettleInLimits, Settled};
 
@@ -26,7 +26,7 @@ pub fn settle(
 ) -> Ends
     requires { ⌜ Checked counts (now job) ⌝ }
     requires { ⌜ SettleInLimits counts weight (upstream .0) place (driven .0) ⌝ }
-    ensures { λ r. ⌜ Settled (netBy counts (now (job .entry))) weight (upstream .0) place (driven .0) r ⌝ }
+    ensures { λ r. ⌜ Settled (placedBy counts (now (job .entry))) weight (upstream .0) place (driven .0) r ⌝ }
 {
     let rows = job::first_row(job, counts, place);
     let length = job::place_word(job, counts, place, 4);

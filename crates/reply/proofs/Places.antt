@@ -10,7 +10,8 @@ use lib.Seq.{sets, length-sets, sets-eq}
 use Rattle.text.proofs.Writing.{sets-append}
 use Rattle.lattice.specs.Lists.{at, from}
 use Rattle.net.specs.Answers.{littleEndian, replyRecords}
-use Rattle.reply.specs.Records.{placeBytes, placesBytes}
+use Rattle.positions.specs.Arranged.{Among}
+use Rattle.reply.specs.Records.{placeBytes, placesBytes, ofPlace}
 use Rattle.reply.proofs.Numbers.{number-long}
 
 -- what is left to write of n places' records
@@ -64,19 +65,33 @@ whole b v n lower upper lean wide h =
     sym (rw first at (sets-append d l b 0)) ∙ rw all at (sets-eq (d ++ l) b 0 (omega arith))
 
 -- places that have the same indices have the same records
-places-same : (k n : ℕ) (lower upper lean wide lean′ wide′ : ℕ → ℕ) → ((p : ℕ) → p < k + n → lean p ≡ lean′ p) → ((p : ℕ) → p < k + n → wide p ≡ wide′ p)
-    → placesBytes k n lower upper lean wide ≡ placesBytes k n lower upper lean′ wide′
+places-same : (k n : ℕ) (lower upper lean wide lower′ upper′ lean′ wide′ : ℕ → ℕ)
+    → ((p : ℕ) → p < k + n → (lower p ≡ lower′ p) × (upper p ≡ upper′ p) × (lean p ≡ lean′ p) × (wide p ≡ wide′ p))
+    → placesBytes k n lower upper lean wide ≡ placesBytes k n lower′ upper′ lean′ wide′
 unfolding placesBytes from flatMap
-places-same k zero lower upper lean wide lean′ wide′ e f = refl
-places-same k (suc n) lower upper lean wide lean′ wide′ e f =
-    rw (e k (omega arith), f k (omega arith), places-same (suc k) n lower upper lean wide lean′ wide′ (λ p h. e p (omega arith)) (λ p h. f p (omega arith)))
+places-same k zero lower upper lean wide lower′ upper′ lean′ wide′ e = refl
+places-same k (suc n) lower upper lean wide lower′ upper′ lean′ wide′ e =
+    let f = e k (omega arith) in
+    rw (f .0, f .1, f .2, f .3, places-same (suc k) n lower upper lean wide lower′ upper′ lean′ wide′ (λ p h. e p (omega arith)))
+
+pub reply-same : (n : ℕ) (delay : List ℕ) (lower upper lean wide lower′ upper′ lean′ wide′ : ℕ → ℕ)
+    → ((p : ℕ) → p < n → (lower p ≡ lower′ p) × (upper p ≡ upper′ p) × (lean p ≡ lean′ p) × (wide p ≡ wide′ p))
+    → replyRecords n delay lower upper lean wide ≡ replyRecords n delay lower′ upper′ lean′ wide′
+unfolding replyRecords placesBytes
+reply-same n delay lower upper lean wide lower′ upper′ lean′ wide′ e =
+    ap (λ l. delay ++ l) (places-same 0 n lower upper lean wide lower′ upper′ lean′ wide′ (λ p h. e p (omega arith)))
+
+-- the largest number
+largest : littleEndian 8 18446744073709551615 ≡ replicate 8 255
+unfolding littleEndian
+largest = refl
 
 -- with the largest number and 255 at each place
-pub none-known : (n : ℕ) (lower upper : ℕ → ℕ) → n ≤ 68
-    → replyRecords n (littleEndian 8 18446744073709551615) lower upper (at (replicate 68 255)) (at (replicate 68 255)) ≡ replyRecords n (replicate 8 255) lower upper (λ p. 255) (λ p. 255)
-unfolding replyRecords placesBytes littleEndian
-none-known n lower upper h =
-    ap (λ l. replicate 8 255 ++ l) (places-same 0 n lower upper (at (replicate 68 255)) (at (replicate 68 255)) (λ p. 255) (λ p. 255) all all)
+pub none-known : (n : ℕ) (positions : List ℕ) (lower upper : ℕ → ℕ) → n ≤ 76 → Among n n positions
+    → replyRecords n (littleEndian 8 18446744073709551615) lower upper (ofPlace positions (replicate 76 255)) (ofPlace positions (replicate 76 255))
+    ≡ replyRecords n (replicate 8 255) lower upper (λ p. 255) (λ p. 255)
+none-known n positions lower upper h a =
+    rw largest (reply-same n (replicate 8 255) lower upper (ofPlace positions (replicate 76 255)) (ofPlace positions (replicate 76 255)) lower upper (λ p. 255) (λ p. 255) (λ p l. (refl, refl, all p l, all p l)))
   where
-    all : (p : ℕ) → p < 0 + n → at (replicate 68 255) p ≡ 255
-    all p l = getD-replicate 68 p 255 0 (omega arith)
+    all : (p : ℕ) → p < n → at (replicate 76 255) (at positions p) ≡ 255
+    all p l = getD-replicate 76 (at positions p) 255 0 (omega (arith, a .among p l))

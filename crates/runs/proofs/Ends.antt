@@ -22,9 +22,9 @@ use Rattle.runs.specs.Records.{byteOf, layer0In, countsTo}
 pub kinds-known : (b : List ℕ) {r : Bool} → r ≡ question2 b → not r ≡ false → Kinds b (records b)
 unfolding question2
 kinds-known b {r} e t =
-    let a = and-T (every (records b) (λ k. inRange 1 4 (kind b k))) (every (records b - 1) (λ k. leb (kind b k) (kind b (suc k)))) (rw (sym e ∙ not-false r t) tt) in
+    let a = and-T (every (records b) (λ k. inRange 1 5 (kind b k))) (every (records b - 1) (λ k. leb (kind b k) (kind b (suc k)))) (rw (sym e ∙ not-false r t) tt) in
     record {
-      known = λ k h. in-range 1 4 (kind b k) (every-at (records b) (λ k. inRange 1 4 (kind b k)) (a .0) k h);
+      known = λ k h. in-range 1 5 (kind b k) (every-at (records b) (λ k. inRange 1 5 (kind b k)) (a .0) k h);
       order = never-falls (kind b) (records b) (λ k h. leb→le _ _ (every-at (records b - 1) (λ k. leb (kind b k) (kind b (suc k))) (a .1) k h));
     }
 
@@ -45,6 +45,36 @@ module _ {b : List ℕ} {n m k : ℕ} (u : UpTo b n m k) where
   ends-last h =
       let e : k ≡ n = omega (arith, u .within) in
       record { front = rw e at u; behind = λ j i p. absurd (omega arith) }
+
+-- The loop that looks for it from the last record down: the records from k on are of kinds above m.
+pub record Above (b : List ℕ) (n m k : ℕ) : Type 0 where
+  pub within : k ≤ n
+  pub behind : (j : ℕ) → k ≤ j → j < n → m < kind b j
+
+pub above-none : (b : List ℕ) (n m : ℕ) → Above b n m n
+above-none b n m = record { within = omega arith; behind = λ j i p. absurd (omega arith) }
+
+module _ {b : List ℕ} {n m k : ℕ} (a : Above b n m k) where
+  -- v is the kind of the record before k
+  module _ {v : ℕ} (h : 0 < k) (e : v ≡ kind b (k - 1)) where
+    pub one-less : m < v → Above b n m (k - 1)
+    one-less l = record { within = omega (arith, a .within); behind = λ j i p. go j p i (decLe k j) }
+      where
+        go : (j : ℕ) → j < n → k - 1 ≤ j → Dec (k ≤ j) → m < kind b j
+        go j p i (yes g) = a .behind j g p
+        go j p i (no g) = let d : j ≡ k - 1 = omega arith in rw d (omega arith)
+
+    pub begins-here : Kinds b n → v ≤ m → Ends b n m k
+    begins-here s l =
+        record {
+          front = record { within = a .within; before = λ j i. omega (arith, s .order j (k - 1) (omega arith) (omega (arith, a .within))) };
+          behind = a .behind;
+        }
+
+  pub begins-first : k ≤ 0 → Ends b n m 0
+  begins-first h =
+      let e : k ≡ 0 = omega arith in
+      record { front = record { within = omega arith; before = λ j i. absurd (omega arith) }; behind = rw e at (a .behind) }
 
 -- The loop that counts the widths of layer 0: v is the layer byte of record k.
 pub counts-nothing : (b : List ℕ) → 0 ≡ layer0In b 0
@@ -89,7 +119,7 @@ module _ {b : List ℕ} {n : ℕ} (h : Kinds b n) where
   ends-none : Ends b n 0 0
   ends-none = record { front = record { within = omega arith; before = λ k l. absurd (omega arith) }; behind = λ k i l. h .known k l .0 }
 
-  ends-all : Ends b n 4 n
+  ends-all : Ends b n 5 n
   ends-all = record { front = record { within = omega arith; before = λ k l. h .known k l .1 }; behind = λ k i l. absurd (omega arith) }
 
   -- behind the widths there is none, so the widths of layer 0 are those among the first records
@@ -99,12 +129,13 @@ module _ {b : List ℕ} {n : ℕ} (h : Kinds b n) where
       (λ k l. rw (eq-eqb (kind b k) 1 (omega (arith, x .front .before k l, h .known k (omega (arith, x .front .within)) .0))))
       ∙ sym (counts-none (λ r. eqb (kind b r) 1 && eqb (widthLayer b r) 0) w n (x .front .within) (λ k i l. rw (ne-eqb (kind b k) 1 (λ e. omega (arith, x .behind k i l, e)))))
 
-  pub counts-runs : {w s t v : ℕ} → Ends b n 1 w → Ends b n 2 s → Ends b n 3 t → v ≡ layer0In b w
-      → _≡_ {A = Counts} (record { widths = w; layer0 = v; sizes = s - w; stages = t - s; segments = n - t }) (countsTo b n)
-  counts-runs {w} {s} {t} {v} x y z u =
+  pub counts-runs : {w s t g v : ℕ} → Ends b n 1 w → Ends b n 2 s → Ends b n 3 t → Ends b n 4 g → v ≡ layer0In b w
+      → _≡_ {A = Counts} (record { widths = w; layer0 = v; sizes = s - w; stages = t - s; segments = g - t; repeaters = n - g }) (countsTo b n)
+  counts-runs {w} {s} {t} {g} {v} x y z q u =
       let e : w ≡ count b 1 n = omega (arith, counts-run ends-none x) in
       let d : v ≡ countLayer0 b n = u ∙ layer0-run x in
       let f : s - w ≡ count b 2 n = counts-run x y in
-      let g : t - s ≡ count b 3 n = counts-run y z in
-      let i : n - t ≡ count b 4 n = counts-run z ends-all in
+      let i : t - s ≡ count b 3 n = counts-run y z in
+      let j : g - t ≡ count b 4 n = counts-run z q in
+      let k : n - g ≡ count b 5 n = counts-run q ends-all in
       cc

@@ -3,9 +3,9 @@ use mathlib.Core.List.{List}
 use Prim.Native.Nat.{ℕ, _≤_, _<_}
 use Rattle.net.specs.Job.{kind}
 
--- The kinds of the first n records are 1 to 4 and never fall.
+-- The kinds of the first n records are 1 to 5 and never fall.
 pub record Kinds (b : List ℕ) (n : ℕ) : Type 0 where
-  pub known : (k : ℕ) → k < n → (1 ≤ kind b k) × (kind b k ≤ 4)
+  pub known : (k : ℕ) → k < n → (1 ≤ kind b k) × (kind b k ≤ 5)
   pub order : (j k : ℕ) → j ≤ k → k < n → kind b j ≤ kind b k
 
 -- Of n records the first r are of kinds up to m.

@@ -9,6 +9,10 @@ use Rattle.net.specs.Job.{byte, word, countIf, count, countLayer0, widthLayer, 
 use Rattle.net.specs.Questions.{inRange}
 use Rattle.net.specs.declared.Counts.{Counts}
 
+-- Is segment i one of n, and has it, by the first segment at each node, branches?
+abbrev pub branched : List ℕ → ℕ → ℕ → Bool
+branched first n i = ltb i n && ltb (getD first (i + 1) 0) n
+
 module _ (b : List ℕ) where
   -- All records of a run are there.
   abbrev pub HasRun : ℕ → ℕ → Type 0
@@ -70,6 +74,14 @@ module _ (b : List ℕ) where
   abbrev pub sinkOrBranch : List ℕ → ℕ → ℕ → ℕ → Bool
   sinkOrBranch first start n k = not (eqb (byteOf start 3 k) 0) || ltb (getD first (k + 1) 0) n
 
+  -- Is the segment of a repeater one of n, and has it branches?
+  abbrev pub siteBranched : List ℕ → ℕ → ℕ → ℕ → Bool
+  siteBranched first start n k = branched first n (byteOf start 2 k)
+
+  -- Is the segment of a repeater before that of the next?
+  abbrev pub sitesRise : ℕ → ℕ → Bool
+  sitesRise start k = ltb (byteOf start 2 k) (byteOf start 2 (k + 1))
+
   -- How many of the first n records, read as widths, are of layer 0.
   abbrev pub layer0In : ℕ → ℕ
   layer0In n = countIf (λ r. eqb (widthLayer b r) 0) n
@@ -83,4 +95,5 @@ module _ (b : List ℕ) where
         sizes = count b 2 n;
         stages = count b 3 n;
         segments = count b 4 n;
+        repeaters = count b 5 n;
       }

@@ -7,7 +7,7 @@ ghost use Prim.Native.Nat.{_+_, _*_, _-_, _<_, _≤_};
 ghost use lib.ListN.{length};
 ghost use Rattle.lattice.specs.Lists.{every};
 ghost use Rattle.runs.specs.Kinds.{Kinds, UpTo, Ends};
-ghost use Rattle.runs.specs.Records.{byteOf, wordOf, byteInOrder, numberInOrder, zeroFrom, zeroBytes, byteWithin, wordWithin, rowsInOrder, rangeWithin, segmentFits, parentInOrder, sinkOrBranch, layer0In, countsTo, HasRun};
+ghost use Rattle.runs.specs.Records.{byteOf, wordOf, byteInOrder, numberInOrder, zeroFrom, zeroBytes, byteWithin, wordWithin, rowsInOrder, rangeWithin, segmentFits, parentInOrder, sinkOrBranch, branched, siteBranched, sitesRise, layer0In, countsTo, HasRun};
 
 // The byte at `at` of the record k after `start`.
 pub fn byte_of(job: &[u8], start: usize, at: usize, k: usize) -> usize
@@ -225,6 +225,36 @@ pub fn sinks_or_branches(job: &[u8], first: &[usize], start: usize, count: usize
     true
 }
 
+// Is segment i one of n, and has it branches?
+fn has_branches(first: &[usize], n: usize, i: usize) -> bool
+    requires { ⌜ n < length (now first) ⌝ }
+    ensures { λ r. ⌜ r ≡ branched (now (first .entry)) n i ⌝ }
+{
+    if i < n {
+        return first[i + 1] < n;
+    }
+    false
+}
+
+// Is the segment of each repeater one of n, has it branches, and do the segment numbers strictly rise? `before` is the node at the far end of the
+// segment before, and 0 before the first.
+pub fn repeaters_sited(job: &[u8], first: &[usize], start: usize, count: usize, n: usize) -> bool
+    requires { ⌜ HasRun (now job) start count × (n < length (now first)) ⌝ }
+    ensures { λ r. ⌜ r ≡ every count (siteBranched (now (job .entry)) (now (first .entry)) start n) && every (count - 1) (sitesRise (now (job .entry)) start) ⌝ }
+{
+    let mut before = 0;
+    for k in 0..count {
+        let site = byte_of(job, start, 2, k);
+        let node = site + 1;
+        let passed = has_branches(first, n, site) & (before < node);
+        if !passed {
+            return false;
+        }
+        before = node;
+    }
+    true
+}
+
 // The first of n records whose kind is above `kind`, or n. The records before `from` are known to be of kinds up to it.
 fn end_of(job: &[u8], n: usize, from: usize, kind: usize) -> usize
     requires { ⌜ 16 * n ≤ length (now job) ⌝ }
@@ -242,6 +272,22 @@ fn end_of(job: &[u8], n: usize, from: usize, kind: usize) -> usize
     n
 }
 
+// The same, looked for from the last record down.
+fn end_from_last(job: &[u8], n: usize, kind: usize) -> usize
+    requires { ⌜ 16 * n ≤ length (now job) ⌝ }
+    requires { ⌜ Kinds (now job) n ⌝ }
+    ensures { λ r. ⌜ Ends (now (job .entry)) n kind r ⌝ }
+{
+    let mut k = n;
+    while k > 0 {
+        if job::index_at(job, 16 * (k - 1)) <= kind {
+            return k;
+        }
+        k -= 1;
+    }
+    0
+}
+
 // How many of the first n records, which are widths, are of layer 0.
 fn count_layer0(job: &[u8], n: usize) -> usize
     requires { ⌜ HasRun (now job) 0 n ⌝ }
@@ -257,8 +303,8 @@ fn count_layer0(job: &[u8], n: usize) -> usize
     count
 }
 
-// How many of the first n records are of each kind, and of the widths how many are of layer 0, where their kinds are 1 to 4 and never fall: each
-// kind is one run of records.
+// How many of the first n records are of each kind, and of the widths how many are of layer 0, where their kinds are 1 to 5 and never fall: each
+// kind is one run of records. Repeaters, which are few, are counted from the last record down.
 pub fn count(job: &[u8], n: usize) -> Counts
     requires { ⌜ 16 * n ≤ length (now job) ⌝ }
     requires { ⌜ Kinds (now job) n ⌝ }
@@ -267,12 +313,14 @@ pub fn count(job: &[u8], n: usize) -> Counts
     let widths = end_of(job, n, 0, 1);
     let sizes = end_of(job, n, widths, 2);
     let stages = end_of(job, n, sizes, 3);
+    let segments = end_from_last(job, n, 4);
     let layer0 = count_layer0(job, widths);
     Counts {
         widths: widths,
         layer0: layer0,
         sizes: sizes - widths,
         stages: stages - sizes,
-        segments: n - stages,
+        segments: segments - stages,
+        repeaters: n - segments,
     }
 }

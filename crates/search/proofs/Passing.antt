@@ -4,11 +4,10 @@ use mathlib.Core.Path.{_≡_}
 use Prim.Native.Nat.{ℕ, _+_, _≤_, _<_}
 use native.Mathlib.Nat.{eq-or-lt-of-le}
 use native.Mathlib.Omega.{arith}
-use Rattle.net.specs.Net.{Net}
-use Rattle.place.specs.Partial.{cost}
+use Rattle.net.specs.Driving.{Driving, cost}
 use Rattle.search.specs.Searching.{PassedTo}
 
-module _ {net : Net} {w u p l added least low top : ℕ} where
+module _ {net : Driving} {w u p l added least low top : ℕ} where
   pub passing-start : low ≤ top → PassedTo net w u p l added least low top low
   passing-start h = record { from = omega arith; within = omega arith; above = λ j a b. absurd (omega arith) }
 

@@ -8,46 +8,48 @@ use native.Mathlib.Nat.{eq-or-lt-of-le, le-of-suc-le-suc}
 use native.Mathlib.Numerals.{add-one}
 use native.Mathlib.Omega.{arith}
 use borrow.Author.Tests.{lt-ltb, le-ltb, ltb-false}
-use lib.Dec.{eqb, ltb}
+use lib.Dec.{eqb}
 use lib.ListN.{length, set}
 use lib.Seq.{getD-set-same, getD-set-other, set-getD}
 use Rattle.lattice.specs.Lists.{at, from, span}
 use Rattle.lattice.specs.Search.{Found, takes, cover}
 use Rattle.lattice.proofs.Searching.{takes-append}
-use Rattle.net.specs.Net.{Net, places}
-use Rattle.net.specs.Delay.{delay}
-use Rattle.net.specs.Places.{placeDelay, placeLoad}
-use Rattle.place.specs.Held.{before, free, GatheredFrom}
+use Rattle.net.specs.Driving.{Driving, before, shownLoad, addedDelay, delayBy}
+use Rattle.place.specs.Held.{free, GatheredFrom}
 use Rattle.place.proofs.After.{after-skip}
 use Rattle.search.specs.Searching.{arrives, SkipsTo, freeLoad, pricedFrom}
 
-module _ (net : Net) (lower upper : List ℕ) where
-  -- where a load at a node arrives: at the node itself, but through a held segment
-  pub arrives-here : (ups : List ℕ) (r : ℕ) → r ≤ net .stages → r ≡ before (arrives net lower upper ups) r
+module _ (net : Driving) (lower upper : List ℕ) where
+  -- where a load at a node arrives: at the node itself, but through a held wire
+  pub arrives-none : (ups : List ℕ) (r : ℕ) → r ≡ 0 → 0 ≡ before (arrives net lower upper ups) r
   unfolding before
-  arrives-here ups zero h = refl
-  arrives-here ups (suc a) h = rw (lt-ltb a (net .stages) h) (go (free lower upper a))
+  arrives-none ups zero e = refl
+  arrives-none ups (suc a) e = absurd (omega arith)
+
+  pub arrives-free : (ups : List ℕ) (r : ℕ) → (r ≡ 0 → ⊥) → at lower (r - 1) < at upper (r - 1) → r ≡ before (arrives net lower upper ups) r
+  unfolding before
+  arrives-free ups zero n h = absurd (n refl)
+  arrives-free ups (suc a) n h = let e : suc a - 1 ≡ a = omega arith in rw (lt-ltb (at lower a) (at upper a) (rw e at h))
+
+  pub arrives-driver : (ups : List ℕ) (r : ℕ) → (r ≡ 0 → ⊥) → net .driver (r - 1) ≡ true → r ≡ before (arrives net lower upper ups) r
+  unfolding before
+  arrives-driver ups zero n h = absurd (n refl)
+  arrives-driver ups (suc a) n h = let e : suc a - 1 ≡ a = omega arith in rw (rw e at h) (go (free lower upper a))
     where
       go : (b : Bool) → suc a ≡ cond b (suc a) (suc a)
       go true = refl
       go false = refl
 
-  pub arrives-free : (ups : List ℕ) (r : ℕ) → (r ≤ net .stages → ⊥) → at lower (r - 1) < at upper (r - 1) → r ≡ before (arrives net lower upper ups) r
+  pub arrives-through : (ups : List ℕ) (r : ℕ) → (r ≡ 0 → ⊥) → net .driver (r - 1) ≡ false → at upper (r - 1) ≤ at lower (r - 1) → at ups (r - 1) ≡ before (arrives net lower upper ups) r
   unfolding before
-  arrives-free ups zero n h = absurd (n (omega arith))
-  arrives-free ups (suc a) n h = let e : suc a - 1 ≡ a = omega arith in rw (lt-ltb (at lower a) (at upper a) (rw e at h))
-
-  pub arrives-through : (ups : List ℕ) (r : ℕ) → (r ≤ net .stages → ⊥) → at upper (r - 1) ≤ at lower (r - 1) → at ups (r - 1) ≡ before (arrives net lower upper ups) r
-  unfolding before
-  arrives-through ups zero n h = absurd (n (omega arith))
-  arrives-through ups (suc a) n h =
+  arrives-through ups zero n d h = absurd (n refl)
+  arrives-through ups (suc a) n d h =
       let e : suc a - 1 ≡ a = omega arith in
-      let l : net .stages ≤ a = omega (arith, n) in
-      rw (e, le-ltb (at lower a) (at upper a) (rw e at h), le-ltb a (net .stages) l)
+      rw (e, le-ltb (at lower a) (at upper a) (rw e at h), rw e at d)
 
   -- it reads the node at which the load of the place itself arrives
   pub arrives-reads : (t u : List ℕ) (a : ℕ) → at t a ≡ at u a → arrives net lower upper t a ≡ arrives net lower upper u a
-  arrives-reads t u a e = ap (λ (w : ℕ). cond (free lower upper a) (suc a) (cond (ltb a (net .stages)) (suc a) w)) e
+  arrives-reads t u a e = ap (λ (w : ℕ). cond (free lower upper a) (suc a) (cond (net .driver a) (suc a) w)) e
 
 module _ (lower upper : List ℕ) where
   -- how many places there are up to the last free one
@@ -137,28 +139,28 @@ pub one-index : (lower upper : List ℕ) (q : ℕ) → at lower q ≤ at upper q
 one-index lower upper q h t = omega (arith, ltb-false (at lower q) (at upper q) t)
 
 -- The places that are skipped before p: they add nothing, show nothing, and leave one sizing.
-module _ (net : Net) (lower upper skips : List ℕ) (s : SkipsTo lower upper (places net) skips) (p : ℕ) (h : p ≤ places net) (y : List ℕ) where
+module _ (net : Driving) (lower upper skips : List ℕ) (s : SkipsTo lower upper (net .places) skips) (p : ℕ) (h : p ≤ net .places) (y : List ℕ) where
   pub priced-skip : (upstream : List ℕ) → pricedFrom net lower upper upstream y (at skips p) ≡ pricedFrom net lower upper upstream y p
   priced-skip upstream =
-      after-skip (places net) (λ q. cond (free lower upper q) (placeDelay net y q + at upstream q * placeLoad net y q) 0) (at skips p) p
-      (skip-le lower upper (places net) skips s p h) (λ q a b m. rw (skip-held lower upper (places net) skips s p h q a b))
+      after-skip (net .places) (λ q. cond (free lower upper q) (addedDelay net y q + at upstream q * shownLoad net y q) 0) (at skips p) p
+      (skip-le lower upper (net .places) skips s p h) (λ q a b m. rw (skip-held lower upper (net .places) skips s p h q a b))
 
-  pub gathers-skip : (ups gathered : List ℕ) → GatheredFrom (places net) (at ups) (freeLoad net lower upper y) p gathered
-      → GatheredFrom (places net) (at ups) (freeLoad net lower upper y) (at skips p) gathered
+  pub gathers-skip : (ups gathered : List ℕ) → GatheredFrom (net .places) (at ups) (freeLoad net lower upper y) p gathered
+      → GatheredFrom (net .places) (at ups) (freeLoad net lower upper y) (at skips p) gathered
   gathers-skip ups gathered g =
       record {
         long = g .long;
         held = λ r m. g .held r m
-            ∙ sym (after-skip (places net) (λ q. cond (eqb (at ups q) r) (freeLoad net lower upper y q) 0) (at skips p) p (skip-le lower upper (places net) skips s p h)
-            (λ q a b n. rw (skip-held lower upper (places net) skips s p h q a b) (none (eqb (at ups q) r))));
+            ∙ sym (after-skip (net .places) (λ q. cond (eqb (at ups q) r) (freeLoad net lower upper y q) 0) (at skips p) p (skip-le lower upper (net .places) skips s p h)
+            (λ q a b n. rw (skip-held lower upper (net .places) skips s p h q a b) (none (eqb (at ups q) r))));
       }
     where
       none : (b : Bool) → _≡_ {A = ℕ} (cond b 0 0) 0
       none true = refl
       none false = refl
 
-  pub takes-skip : ((q : ℕ) → q < places net → at lower q ≤ at upper q) → ((q : ℕ) → q < places net → free lower upper q ≡ false → at y q ≡ at lower q) → (f : Found)
-      → takes (delay net) (cover lower upper p y) f ≡ takes (delay net) (cover lower upper (at skips p) y) f
+  pub takes-skip : ((q : ℕ) → q < net .places → at lower q ≤ at upper q) → ((q : ℕ) → q < net .places → free lower upper q ≡ false → at y q ≡ at lower q) → (f : Found)
+      → takes (delayBy net) (cover lower upper p y) f ≡ takes (delayBy net) (cover lower upper (at skips p) y) f
   takes-skip order held f =
-      cover-skip (delay net) lower upper (at skips p) p (skip-le lower upper (places net) skips s p h) y f
-      (λ q a b. let t = skip-held lower upper (places net) skips s p h q a b in (one-index lower upper q (order q (omega arith)) t, held q (omega arith) t))
+      cover-skip (delayBy net) lower upper (at skips p) p (skip-le lower upper (net .places) skips s p h) y f
+      (λ q a b. let t = skip-held lower upper (net .places) skips s p h q a b in (one-index lower upper q (order q (omega arith)) t, held q (omega arith) t))

@@ -1,5 +1,5 @@
-// The search between the bounds, free place after free place, from the last to the first; a place is free where the bounds leave it more than
-// one index.
+// The search between the bounds, free place after free place, from the last position to the first; a place is free where the bounds leave it more
+// than one index. Tables and sizings go by position.
 use net::Counts;
 use quantity::Capacitance;
 use quantity::Delay;
@@ -10,66 +10,82 @@ ghost use lib.ListN.{length};
 ghost use Rattle.envelope.specs.Kept.{found};
 ghost use Rattle.net.specs.Job.{placesBy};
 ghost use Rattle.net.specs.Checked.{Checked, ForPlaces};
+ghost use Rattle.positions.specs.Arranged.{PlacesInOrder, NodesOf};
 ghost use Rattle.place.specs.ByCounts.{rowsAt, LengthAt, StepInLimits};
 ghost use Rattle.search.specs.Searching.{Bounds, Prepared, LastFree, MoreFree, BothLong, Skipped, AllFit, PassedBy, PassedAt, SizedBy, arrivesAt, Lifted, SearchedFrom, takenBetween};
 
-// The node at which a load at `node` arrives, through the held segments above it.
+// The node at which a load at `node` arrives, through the held wires above it.
 fn arrival(
     job: &[u8],
     counts: Counts,
+    order: &[usize; 76],
     lower: &[u8],
     upper: &[u8],
-    ups: &[usize; 68],
+    ups: &[usize; 76],
     node: usize,
 ) -> usize
     requires { ⌜ Checked counts (now job) ⌝ }
+    requires { ⌜ PlacesInOrder counts (now job) (now order) ⌝ }
     requires { ⌜ BothLong counts (now lower) (now upper) ⌝ }
     requires { ⌜ node ≤ placesBy counts ⌝ }
     ensures { λ r. ⌜ r ≡ arrivesAt counts (now (job .entry)) (now (lower .entry)) (now (upper .entry)) (now (ups .entry)) node ⌝ }
 {
-    if node <= counts.stages {
-        return node;
+    if node == 0 {
+        return 0;
     }
     let a = node - 1;
     if lower[a] < upper[a] {
         return node;
     }
+    if job::is_driver(counts, order[a]) {
+        return node;
+    }
     ups[a]
 }
 
-// The nodes at which the loads of the places arrive.
-fn lift(job: &[u8], counts: Counts, lower: &[u8], upper: &[u8], ups: &mut [usize; 68])
+// The nodes at which the loads of the positions arrive.
+fn lift(
+    job: &[u8],
+    counts: Counts,
+    order: &[usize; 76],
+    hangs: &[usize; 76],
+    lower: &[u8],
+    upper: &[u8],
+    ups: &mut [usize; 76],
+)
     requires { ⌜ Checked counts (now job) ⌝ }
+    requires { ⌜ PlacesInOrder counts (now job) (now order) ⌝ }
+    requires { ⌜ NodesOf counts (now job) (now hangs) ⌝ }
     requires { ⌜ BothLong counts (now lower) (now upper) ⌝ }
     requires { ⌜ placesBy counts ≤ length (now ups) ⌝ }
     ensures { λ r. ⌜ Lifted counts (now (job .entry)) (now (lower .entry)) (now (upper .entry)) (now (ups .exit)) ⌝ }
 {
-    let places = counts.stages + counts.segments;
-    let mut p = 0;
-    while p < places {
-        let node = place::hangs_at(job, counts, p);
-        ups[p] = arrival(job, counts, lower, upper, ups, node);
-        p += 1;
+    let places = counts.stages + counts.segments + counts.repeaters;
+    let mut t = 0;
+    while t < places {
+        let node = hangs[t];
+        ups[t] = arrival(job, counts, order, lower, upper, ups, node);
+        t += 1;
     }
 }
 
 // Of how many places the last one is free, up to each place.
-fn skip(job: &[u8], counts: Counts, lower: &[u8], upper: &[u8], skips: &mut [usize; 69])
+fn skip(job: &[u8], counts: Counts, lower: &[u8], upper: &[u8], skips: &mut [usize; 77])
     requires { ⌜ Checked counts (now job) ⌝ }
     requires { ⌜ BothLong counts (now lower) (now upper) ⌝ }
     requires { ⌜ placesBy counts < length (now skips) ⌝ }
     ensures { λ r. ⌜ Skipped counts (now (lower .entry)) (now (upper .entry)) (now (skips .exit)) ⌝ }
 {
-    let places = counts.stages + counts.segments;
+    let places = counts.stages + counts.segments + counts.repeaters;
     skips[0] = 0;
-    let mut p = 0;
-    while p < places {
-        let q = p;
-        p += 1;
+    let mut t = 0;
+    while t < places {
+        let q = t;
+        t += 1;
         if lower[q] < upper[q] {
-            skips[p] = p;
+            skips[t] = t;
         } else {
-            skips[p] = skips[q];
+            skips[t] = skips[q];
         }
     }
 }
@@ -115,23 +131,24 @@ fn pass_over(
 fn take_from(
     job: &[u8],
     counts: Counts,
-    weights: &[u64; 68],
-    upstream: &[u64; 68],
-    driven: &[u64; 68],
-    ups: &[usize; 68],
-    skips: &[usize; 69],
+    order: &[usize; 76],
+    weights: &[u64; 76],
+    upstream: &[u64; 76],
+    driven: &[u64; 76],
+    ups: &[usize; 76],
+    skips: &[usize; 77],
     lower: &[u8],
     upper: &[u8],
     left: usize,
     start: u8,
     added: Delay,
     x: &mut [u8],
-    gathered: &[u64; 69],
+    gathered: &[u64; 77],
     least: Delay,
     lean: &mut [u8],
     wide: &mut [u8],
 ) -> Delay
-    requires { ⌜ Prepared counts (now job) (now weights) (now upstream) (now driven) (now ups) (now skips) (now lower) (now upper) ⌝ }
+    requires { ⌜ Prepared counts (now job) (now order) (now weights) (now upstream) (now driven) (now ups) (now skips) (now lower) (now upper) ⌝ }
     requires { ⌜ SizedBy counts (now job) (now upstream) (now driven) (now ups) (now lower) (now upper)
         left (added .0) (now x) (now gathered) (now lean) (now wide) ⌝ }
     requires { ⌜ LastFree (now lower) (now upper) (now skips) left ⌝ }
@@ -141,13 +158,14 @@ fn take_from(
         (now (x .entry)) (now (gathered .entry)) (found (least .0) (now (lean .entry)) (now (wide .entry)))
         (now (x .exit)) (now (gathered .entry)) (found (r .0) (now (lean .exit)) (now (wide .exit))) ⌝ }
 {
-    let p = left - 1;
+    let t = left - 1;
+    let p = order[t];
     let rows = job::first_row(job, counts, p);
     let length = job::place_word(job, counts, p, 4);
-    let weight = weights[p];
-    let before = Resistance(upstream[p]);
-    let load = quantity::add_capacitance(Capacitance(driven[p]), Capacitance(gathered[p + 1]));
-    let top = upper[p];
+    let weight = weights[t];
+    let before = Resistance(upstream[t]);
+    let load = quantity::add_capacitance(Capacitance(driven[t]), Capacitance(gathered[t + 1]));
+    let top = upper[t];
     let mut k = start;
     let mut best = least;
     while k <= top {
@@ -156,7 +174,7 @@ fn take_from(
         let reached = quantity::add_delay(added, step.delay);
         k += 1;
         if reached.0 <= best.0 {
-            x[p] = index;
+            x[t] = index;
             best = envelope::keep(x, reached, best, lean, wide);
         }
     }
@@ -168,22 +186,23 @@ fn take_from(
 fn search(
     job: &[u8],
     counts: Counts,
-    weights: &[u64; 68],
-    upstream: &[u64; 68],
-    driven: &[u64; 68],
-    ups: &[usize; 68],
-    skips: &[usize; 69],
+    order: &[usize; 76],
+    weights: &[u64; 76],
+    upstream: &[u64; 76],
+    driven: &[u64; 76],
+    ups: &[usize; 76],
+    skips: &[usize; 77],
     lower: &[u8],
     upper: &[u8],
     left: usize,
     added: Delay,
     x: &mut [u8],
-    gathered: &mut [u64; 69],
+    gathered: &mut [u64; 77],
     least: Delay,
     lean: &mut [u8],
     wide: &mut [u8],
 ) -> Delay
-    requires { ⌜ Prepared counts (now job) (now weights) (now upstream) (now driven) (now ups) (now skips) (now lower) (now upper) ⌝ }
+    requires { ⌜ Prepared counts (now job) (now order) (now weights) (now upstream) (now driven) (now ups) (now skips) (now lower) (now upper) ⌝ }
     requires { ⌜ SizedBy counts (now job) (now upstream) (now driven) (now ups) (now lower) (now upper)
         left (added .0) (now x) (now gathered) (now lean) (now wide) ⌝ }
     requires { ⌜ MoreFree (now lower) (now upper) (now skips) left ⌝ }
@@ -191,33 +210,35 @@ fn search(
         (now (x .entry)) (now (gathered .entry)) (found (least .0) (now (lean .entry)) (now (wide .entry)))
         (now (x .exit)) (now (gathered .exit)) (found (r .0) (now (lean .exit)) (now (wide .exit))) ⌝ }
 {
-    let p = left - 1;
+    let t = left - 1;
+    let p = order[t];
     let rows = job::first_row(job, counts, p);
     let length = job::place_word(job, counts, p, 4);
-    let rest = skips[p];
+    let rest = skips[t];
     let next = rest - 1;
     // what stays as it is at the next free place, whatever the index here
-    let next_rows = job::first_row(job, counts, next);
-    let next_length = job::place_word(job, counts, next, 4);
+    let next_place = order[next];
+    let next_rows = job::first_row(job, counts, next_place);
+    let next_length = job::place_word(job, counts, next_place, 4);
     let next_low = lower[next];
     let next_top = upper[next];
     let next_weight = weights[next];
     let next_before = Resistance(upstream[next]);
     let next_driven = Capacitance(driven[next]);
     let further = skips[next];
-    let weight = weights[p];
-    let before = Resistance(upstream[p]);
-    let load = quantity::add_capacitance(Capacitance(driven[p]), Capacitance(gathered[p + 1]));
-    let node = ups[p];
+    let weight = weights[t];
+    let before = Resistance(upstream[t]);
+    let load = quantity::add_capacitance(Capacitance(driven[t]), Capacitance(gathered[t + 1]));
+    let node = ups[t];
     let others = Capacitance(gathered[node]);
-    let top = upper[p];
-    let mut k = lower[p];
+    let top = upper[t];
+    let mut k = lower[t];
     let mut best = least;
     while k <= top {
         let step = place::step(job, counts, weight, before, p, rows, length, k, load);
         let reached = quantity::add_delay(added, step.delay);
         let shown = step.load;
-        x[p] = k;
+        x[t] = k;
         let all = quantity::add_capacitance(others, shown);
         gathered[node] = all.0;
         k += 1;
@@ -228,7 +249,7 @@ fn search(
                 counts,
                 next_weight,
                 next_before,
-                next,
+                next_place,
                 next_rows,
                 next_length,
                 quantity::add_capacitance(next_driven, arrived),
@@ -241,6 +262,7 @@ fn search(
                 best = take_from(
                     job,
                     counts,
+                    order,
                     weights,
                     upstream,
                     driven,
@@ -262,6 +284,7 @@ fn search(
             best = search(
                 job,
                 counts,
+                order,
                 weights,
                 upstream,
                 driven,
@@ -287,11 +310,12 @@ fn search(
 fn start(
     job: &[u8],
     counts: Counts,
-    weights: &[u64; 68],
-    upstream: &[u64; 68],
-    driven: &[u64; 68],
-    ups: &[usize; 68],
-    skips: &[usize; 69],
+    order: &[usize; 76],
+    weights: &[u64; 76],
+    upstream: &[u64; 76],
+    driven: &[u64; 76],
+    ups: &[usize; 76],
+    skips: &[usize; 77],
     lower: &[u8],
     upper: &[u8],
     x: &mut [u8],
@@ -299,24 +323,25 @@ fn start(
     lean: &mut [u8],
     wide: &mut [u8],
 ) -> Delay
-    requires { ⌜ Prepared counts (now job) (now weights) (now upstream) (now driven) (now ups) (now skips) (now lower) (now upper) ⌝ }
+    requires { ⌜ Prepared counts (now job) (now order) (now weights) (now upstream) (now driven) (now ups) (now skips) (now lower) (now upper) ⌝ }
     requires { ⌜ now x ≡ now lower ⌝ }
     requires { ⌜ ForPlaces counts (now lean) × ForPlaces counts (now wide) ⌝ }
     ensures { λ r. ⌜ found (r .0) (now (lean .exit)) (now (wide .exit))
         ≡ takenBetween counts (now (job .entry)) (now (lower .entry)) (now (upper .entry))
         (found (least .0) (now (lean .entry)) (now (wide .entry))) ⌝ }
 {
-    let fixed = place::fixed_delay(job, counts, weights, driven, lower, upper);
-    let left = skips[counts.stages + counts.segments];
+    let fixed = place::fixed_delay(job, counts, order, weights, driven, lower, upper);
+    let left = skips[counts.stages + counts.segments + counts.repeaters];
     if left == 0 {
         return envelope::keep(x, fixed, least, lean, wide);
     }
     // loads, by node
-    let mut gathered = [0u64; 69];
+    let mut gathered = [0u64; 77];
     if skips[left - 1] == 0 {
         return take_from(
             job,
             counts,
+            order,
             weights,
             upstream,
             driven,
@@ -337,6 +362,7 @@ fn start(
     search(
         job,
         counts,
+        order,
         weights,
         upstream,
         driven,
@@ -358,7 +384,9 @@ fn start(
 pub fn between(
     job: &[u8],
     counts: Counts,
-    weights: &[u64; 68],
+    order: &[usize; 76],
+    hangs: &[usize; 76],
+    weights: &[u64; 76],
     lower: &[u8],
     upper: &[u8],
     x: &mut [u8],
@@ -366,6 +394,8 @@ pub fn between(
     lean: &mut [u8],
     wide: &mut [u8],
 ) -> Delay
+    requires { ⌜ PlacesInOrder counts (now job) (now order) ⌝ }
+    requires { ⌜ NodesOf counts (now job) (now hangs) ⌝ }
     requires { ⌜ Bounds counts (now job) (now weights) (now lower) (now upper) ⌝ }
     requires { ⌜ now x ≡ now lower ⌝ }
     requires { ⌜ ForPlaces counts (now lean) × ForPlaces counts (now wide) ⌝ }
@@ -373,22 +403,33 @@ pub fn between(
         ≡ takenBetween counts (now (job .entry)) (now (lower .entry)) (now (upper .entry))
         (found (least .0) (now (lean .entry)) (now (wide .entry))) ⌝ }
 {
-    // loads, by place
-    let mut driven = [0u64; 68];
-    place::drive(job, counts, lower, upper, &mut driven);
-    // weighted resistances, by place
-    let mut upstream = [0u64; 68];
-    let places = counts.stages + counts.segments;
-    place::go_upstream(job, counts, weights, lower, upper, &mut upstream, places);
-    // nodes, by place
-    let mut ups = [0usize; 68];
-    lift(job, counts, lower, upper, &mut ups);
-    // counts of places
-    let mut skips = [0usize; 69];
+    // loads, by position
+    let mut driven = [0u64; 76];
+    place::drive(job, counts, order, hangs, lower, upper, &mut driven);
+    // weighted resistances, by position
+    let mut upstream = [0u64; 76];
+    let places = counts.stages + counts.segments + counts.repeaters;
+    place::go_upstream(
+        job,
+        counts,
+        order,
+        hangs,
+        weights,
+        lower,
+        upper,
+        &mut upstream,
+        places,
+    );
+    // nodes, by position
+    let mut ups = [0usize; 76];
+    lift(job, counts, order, hangs, lower, upper, &mut ups);
+    // counts of positions
+    let mut skips = [0usize; 77];
     skip(job, counts, lower, upper, &mut skips);
     start(
         job,
         counts,
+        order,
         weights,
         &upstream,
         &driven,

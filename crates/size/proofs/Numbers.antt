@@ -1,5 +1,5 @@
 -- The numbers of size and the buffer at each: every way through the code is the definition.
-use mathlib.Core.Path.{_≡_, sym, ap, subst, _∙_}
+use mathlib.Core.Path.{_≡_, refl, sym, ap, subst, _∙_}
 use mathlib.Core.Bool.{Bool, true, false}
 use mathlib.Core.List.{List, _++_}
 use Prim.Native.Nat.{ℕ, suc, _*_, _≤_, _<_}
@@ -7,42 +7,50 @@ use native.Mathlib.Omega.{arith}
 use borrow.Author.Tests.{le-leb, lt-leb}
 use lib.Dec.{leb, lit≤}
 use lib.ListN.{length, drop, replicate}
-use Rattle.lattice.specs.Lists.{at}
+use Rattle.lattice.specs.Side.{below, above}
 use Rattle.lattice.specs.Space.{within}
 use Rattle.lattice.specs.Refine as refining
 use Rattle.net.specs.declared.Counts.{Counts}
-use Rattle.net.specs.Net.{Net, places, netBy, netOf}
+use Rattle.net.specs.Net.{places, netBy, netOf}
+use Rattle.net.specs.Order.{drivingBy}
 use Rattle.net.specs.Sizings.{room}
 use Rattle.net.specs.Checked.{Checked}
 use Rattle.net.specs.Questions.{refusal}
-use Rattle.net.specs.Answers.{replyLength, sizeNumber, boundsReply, replyRecords, sizeBuffer}
+use Rattle.net.specs.Answers.{replyLength, sizeNumber, boundsReply, sizeBuffer}
 use Rattle.net.proofs.Promises.{promises, refusal-apart, size-fails, size-passes, buffer-refused}
+use Rattle.positions.specs.Arranged.{PositionsOf}
+use Rattle.reply.specs.Records.{boundsReplied}
+use Rattle.reply.proofs.Places.{reply-same}
 use Rattle.bounds.specs.Between.{roomy}
 use Rattle.finish.specs.Parts.{Bounded, bufferFrom}
-use Rattle.finish.proofs.Parts.{lower-long}
+use Rattle.finish.proofs.Parts.{lower-long, by-place, bound-of-place}
 use Rattle.size.specs.Numbers.{roomNumber, Settled}
 
--- question 14
-module _ (net : Net) (lower upper : List ℕ) (b : Bounded net lower upper) where
-  fits-is : leb (room net) 65536 ≡ roomy (places net) lower upper
+-- question 14: the room by position is that by place
+module _ {c : Counts} {job lower upper : List ℕ} (k : Checked c job) (b : Bounded (drivingBy c job) lower upper) where
+  fits-is : leb (room (netBy c job)) 65536 ≡ roomy (places (netBy c job)) lower upper
   unfolding refining.room within
-  fits-is = rw (b .isLower, b .isUpper)
+  fits-is = ap (λ r. leb r 65536) (by-place k .room) ∙ rw (b .isLower, b .isUpper)
 
-  module _ (t : Bool) (g : t ≡ roomy (places net) lower upper) where
-    pub number-14 : t ≡ false → 14 ≡ roomNumber net
+  module _ (t : Bool) (g : t ≡ roomy (places (netBy c job)) lower upper) where
+    pub number-14 : t ≡ false → 14 ≡ roomNumber (netBy c job)
     unfolding roomNumber
     number-14 h = rw (fits-is ∙ sym g ∙ h)
 
-    pub number-0 : t ≡ true → 0 ≡ roomNumber net
+    pub number-0 : t ≡ true → 0 ≡ roomNumber (netBy c job)
     unfolding roomNumber
     number-0 h = rw (fits-is ∙ sym g ∙ h)
 
 -- the buffer at 14
-module _ {c : Counts} {job lower upper : List ℕ} (k : Checked c job) (b : Bounded (netBy c job) lower upper) (before after : List ℕ) where
-  pub buffer-14 : after ≡ replyRecords (length lower) (replicate 8 255) (at lower) (at upper) (λ p. 255) (λ p. 255) ++ drop (8 * suc (length lower)) before
-      → after ≡ bufferFrom (netBy c job) 14 before
+module _ {c : Counts} {job positions lower upper : List ℕ} (k : Checked c job) (q : PositionsOf c job positions) (b : Bounded (drivingBy c job) lower upper) (before after : List ℕ) where
+  pub buffer-14 : after ≡ boundsReplied (length lower) positions lower upper before → after ≡ bufferFrom (netBy c job) 14 before
   unfolding bufferFrom boundsReply
-  buffer-14 e = e ∙ rw (lower-long k b, b .isLower, b .isUpper)
+  buffer-14 e =
+      e
+      ∙ rw (lower-long k b)
+      (ap (λ z. z ++ drop (8 * suc (places (netBy c job))) before)
+      (reply-same (places (netBy c job)) (replicate 8 255) _ _ _ _ _ _ _ _
+      (λ p h. (bound-of-place k q below lower (b .isLower) p h, bound-of-place k q above upper (b .isUpper) p h, refl, refl))))
 
 settled : (job before : List ℕ) (n : ℕ) (after : List ℕ) → n ≡ sizeNumber job (length before) → after ≡ sizeBuffer job before → Settled job before n after
 settled job before n after e f = (e, (f, rw (e, f) (promises job before)))

@@ -11,11 +11,10 @@ ghost use Rattle.net.specs.Checked.{Checked, ForPlaces};
 ghost use Rattle.net.specs.Questions.{refusal};
 ghost use Rattle.net.specs.Answers.{sizeNumber, sizeBuffer};
 ghost use Rattle.net.specs.Promises.{Promises};
-ghost use Rattle.questions.specs.Check.{CheckOf};
-ghost use Rattle.links.specs.Links.{LinkedBy};
+ghost use Rattle.positions.specs.Arranged.{PlacesInOrder, PositionsOf, NodesOf};
 ghost use Rattle.place.specs.ByCounts.{Weighed};
 ghost use Rattle.finish.specs.Parts.{BoundedBy, bufferBy};
-ghost use Rattle.size.specs.Numbers.{roomNumber, Settled};
+ghost use Rattle.size.specs.Numbers.{roomNumber, Passing, Settled};
 
 // What comes of sizing a job: the number of the first question that fails, 0 where none does; and, where the job passes its questions, the counts of
 // its records.
@@ -28,77 +27,96 @@ pub struct NumberAndCounts {
 fn answer(
     job: &[u8],
     counts: Counts,
-    weights: &[u64; 68],
+    order: &[usize; 76],
+    position: &[usize; 76],
+    hangs: &[usize; 76],
+    weights: &[u64; 76],
     lower: &[u8],
     upper: &[u8],
     reply: &mut [u8],
 ) -> usize
     requires { ⌜ Checked counts (now job) ⌝ }
+    requires { ⌜ PlacesInOrder counts (now job) (now order) ⌝ }
+    requires { ⌜ PositionsOf counts (now job) (now position) ⌝ }
+    requires { ⌜ NodesOf counts (now job) (now hangs) ⌝ }
     requires { ⌜ Weighed counts (now job) (now weights) ⌝ }
     requires { ⌜ BoundedBy counts (now job) (now lower) (now upper) ⌝ }
     requires { ⌜ 8 * suc (placesBy counts) ≤ length (now reply) ⌝ }
     ensures number { λ r. ⌜ r ≡ roomNumber (netBy counts (now (job .entry))) ⌝ }
     ensures buffer { λ r. ⌜ now (reply .exit) ≡ bufferBy counts (now (job .entry)) r (now (reply .entry)) ⌝ }
 {
-    let places = counts.stages + counts.segments;
+    let places = counts.stages + counts.segments + counts.repeaters;
     if !bounds::room_fits(lower, upper, places) {
-        reply::bounds_only(reply, lower, upper);
+        reply::bounds_only(reply, position, lower, upper);
         return 14;
     }
-    finish::finish(job, counts, weights, lower, upper, reply);
+    finish::finish(
+        job,
+        counts,
+        order,
+        position,
+        hangs,
+        weights,
+        lower,
+        upper,
+        reply,
+    );
     0
 }
 
-// Both bounds, then the question that needs them, and the reply.
+// Both bounds, in the driving order of the places, then the question that needs them, and the reply.
 fn bound_and_answer(
     job: &[u8],
     counts: Counts,
-    first: &[usize],
-    next: &[usize],
     lower: &mut [u8],
     upper: &mut [u8],
     reply: &mut [u8],
 ) -> usize
     requires { ⌜ Checked counts (now job) ⌝ }
-    requires { ⌜ LinkedBy counts (now job) (now first) (now next) ⌝ }
     requires { ⌜ ForPlaces counts (now lower) × ForPlaces counts (now upper) ⌝ }
     requires { ⌜ 8 * suc (placesBy counts) ≤ length (now reply) ⌝ }
     ensures number { λ r. ⌜ r ≡ roomNumber (netBy counts (now (job .entry))) ⌝ }
     ensures buffer { λ r. ⌜ now (reply .exit) ≡ bufferBy counts (now (job .entry)) r (now (reply .entry)) ⌝ }
 {
-    let mut weights = [0u64; 68];
-    weights::weigh(job, counts, first, next, &mut weights);
-    bounds::bound(job, counts, &weights, lower, Side::Below);
-    bounds::bound(job, counts, &weights, upper, Side::Above);
-    answer(job, counts, &weights, lower, upper, reply)
+    let mut order = [0usize; 76];
+    let mut position = [0usize; 76];
+    let mut hangs = [0usize; 76];
+    positions::arrange(job, counts, &mut order, &mut position, &mut hangs);
+    let mut weights = [0u64; 76];
+    weights::weigh(job, counts, &order, &hangs, &mut weights);
+    bounds::bound(job, counts, &order, &hangs, &weights, lower, Side::Below);
+    bounds::bound(job, counts, &order, &hangs, &weights, upper, Side::Above);
+    answer(
+        job,
+        counts,
+        &order,
+        &position,
+        &hangs,
+        &weights,
+        lower,
+        upper,
+        reply,
+    )
 }
 
 // What follows the check: the questions that need a buffer or bounds, and the reply.
-fn answer_checked(
-    job: &[u8],
-    checked: Outcome,
-    first: &[usize],
-    next: &[usize],
-    reply: &mut [u8],
-) -> usize
-    requires { ⌜ CheckOf (now job) checked (now first) (now next) ⌝ }
+fn answer_checked(job: &[u8], checked: Outcome, reply: &mut [u8]) -> usize
+    requires { ⌜ Passing (now job) checked ⌝ }
     ensures { λ r. ⌜ Settled (now (job .entry)) (now (reply .entry)) r (now (reply .exit)) ⌝ }
 {
     if checked.number != 0 {
         return checked.number;
     }
     let counts = checked.counts;
-    let places = counts.stages + counts.segments;
+    let places = counts.stages + counts.segments + counts.repeaters;
     if reply.len() < 8 * (1 + places) {
         return 12;
     }
-    let mut lower = [0u8; 68];
-    let mut upper = [0u8; 68];
+    let mut lower = [0u8; 76];
+    let mut upper = [0u8; 76];
     bound_and_answer(
         job,
         counts,
-        first,
-        next,
         &mut lower[..places],
         &mut upper[..places],
         reply,
@@ -115,7 +133,7 @@ pub fn size_and_counts(job: &[u8], reply: &mut [u8]) -> NumberAndCounts
     let mut next = [0usize; 64];
     let checked = questions::check(job, &mut first, &mut next);
     let counts = checked.counts;
-    let number = answer_checked(job, checked, &first, &next, reply);
+    let number = answer_checked(job, checked, reply);
     NumberAndCounts {
         number: number,
         counts: counts,

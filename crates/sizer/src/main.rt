@@ -5,7 +5,7 @@ fn main() {
     let mut input = [0u8; 65537];
     match console::read_input(&mut input) {
         Input::Whole(n) => {
-            let mut text = [0u8; 8192];
+            let mut text = [0u8; 9216];
             let length = output::print(&input[..n], &mut text);
             console::write_output(&text[..length]);
         }

@@ -5,7 +5,7 @@ fn main() {
     let mut input = [0u8; 65537];
     match console::read_input(&mut input) {
         Input::Whole(n) => {
-            let mut reply = [0u8; 552];
+            let mut reply = [0u8; 616];
             let mut line = [0u8; 32];
             let lengths = output::reply(&input[..n], &mut reply, &mut line);
             let written = lengths.reply;

@@ -1,2 +1,1 @@
-pub mod LinkedSums
 pub mod Weighing

@@ -1,103 +1,85 @@
--- The filling of the weights, step by step, from the last place to the first.
+-- The weights of the places, from the last position to the first: one position more.
 use mathlib.Core.Path.{_≡_, refl, sym, ap, _∙_}
-use mathlib.Core.Logic.{⊎-elim}
+use mathlib.Core.Logic.{_⊎_, inl, inr}
 use mathlib.Core.List.{List}
-use Prim.Native.Nat.{ℕ, suc, _+_, _*_, _-_, _≤_, _<_}
-use native.Mathlib.Nat.{eq-or-lt-of-le}
-use native.Mathlib.Decide.{decLe}
-use native.Mathlib.Numerals.{add-one}
+use Prim.Native.Nat.{ℕ, suc, _+_, _≤_, _<_}
+use native.Mathlib.Nat.{eq-or-lt-of-le, mul-le-mul-right}
 use native.Mathlib.Omega.{arith}
 use lib.ListN.{length, set, length-set}
 use lib.Seq.{getD-set-same, getD-set-other}
 use Rattle.lattice.specs.Lists.{at}
-use Rattle.net.specs.Net.{Net, places}
-use Rattle.net.specs.Delay.{branches}
-use Rattle.net.specs.Segments.{weightBelow, totalWeight}
-use Rattle.net.specs.Places.{placeWeight}
-use Rattle.net.specs.Checked.{Ordered, Limited}
-use Rattle.net.proofs.Exchange.{branches-whole}
-use Rattle.net.proofs.Bound.{branches-bounded}
-use Rattle.links.specs.Links.{Linked}
+use Rattle.net.specs.declared.Counts.{Counts}
+use Rattle.net.specs.Job.{placesBy}
+use Rattle.net.specs.Net.{netBy}
+use Rattle.net.specs.Checked.{Checked}
+use Rattle.net.specs.Driving.{behind}
+use Rattle.net.specs.Order.{order, weightDriven, drivingBy}
+use Rattle.net.proofs.Order.{numbering}
+use Rattle.net.proofs.Weights.{weight-behind}
+use Rattle.net.proofs.Questions.{ordered}
+use Rattle.net.proofs.InOrder.{placed, inLimits, checked-driven}
 use Rattle.place.specs.Partial.{WeightsFrom}
-use Rattle.place.proofs.Weights.{segment-weight, stage-weight}
-use Rattle.weights.specs.Sums.{nodeSum}
-use Rattle.weights.proofs.LinkedSums.{node-branches}
+use Rattle.place.specs.Held.{GatheredFrom}
+use Rattle.place.proofs.Gathering.{gathered-all, gathered-small, gathering-start, gathering-step}
+use Rattle.weights.specs.Sinks.{sinkWeight, doubled}
 
-pub weights-start : (net : Net) (weights : List ℕ) → places net ≤ length weights → WeightsFrom net (net .stages + net .segments) weights
-weights-start net weights h = record { long = h; held = λ q l m. absurd (omega arith) }
+-- The weight of the sinks that position t drives.
+abbrev pub driven : Counts → List ℕ → ℕ → ℕ
+driven c b t = weightDriven (netBy c b) (order (netBy c b) t)
 
--- one place more
-pub weights-step : (net : Net) (p w : ℕ) (weights : List ℕ) → p < places net → WeightsFrom net (suc p) weights → w ≡ placeWeight net p → WeightsFrom net p (set weights p w)
-weights-step net p w weights h a e =
+-- What the loop knows when the positions from t on are done.
+pub record Weighing (c : Counts) (b : List ℕ) (t : ℕ) (weights gathered : List ℕ) : Type 0 where
+  pub weighs : WeightsFrom (drivingBy c b) t weights
+  pub gathers : GatheredFrom (placesBy c) (drivingBy c b .hangsAt) (driven c b) t gathered
+
+pub weighing-start : (c : Counts) (b weights gathered : List ℕ) → placesBy c ≤ length weights → placesBy c < length gathered → ((r : ℕ) → r ≤ placesBy c → at gathered r ≡ 0)
+    → Weighing c b (placesBy c) weights gathered
+weighing-start c b weights gathered h k z =
     record {
-      long = rw (length-set weights p w) (a .long);
-      held = λ q l m. ⊎-elim
-          (λ (f : p ≡ q). rw (← f) (getD-set-same weights p w 0 (omega (arith, a .long)) ∙ e))
-          (λ f. getD-set-other weights p q w 0 (λ g. omega arith) ∙ a .held q f m) (eq-or-lt-of-le l);
+      weighs = record { long = h; held = λ q m n. absurd (omega arith) };
+      gathers = gathering-start (placesBy c) (drivingBy c b .hangsAt) (driven c b) gathered k z;
     }
 
--- the sum at a node of the weights from its first branch on
-module _ (net : Net) (o : Ordered net) (l : Limited net) (first next weights : List ℕ) (links : Linked net first next) where
-  node-weight : (q : ℕ) → q ≤ net .segments → WeightsFrom net (net .stages + q) weights → nodeSum net first next weights q ≡ branches net (net .weight) q
-  unfolding weightBelow
-  node-weight q h a = node-branches net (o .parents) first next weights links (net .weight) q h (λ i m n. a .held (net .stages + i) (omega arith) (omega arith) ∙ segment-weight net i)
+module _ {c : Counts} {b : List ℕ} (k : Checked c b) where
+  driven-most : (t : ℕ) → t < placesBy c → driven c b t ≤ 16575
+  driven-most t h = checked-driven k (order (netBy c b) t) (numbering (netBy c b) (ordered k .sites) (ordered k .rising) .inside t h)
 
-  pub node-weight-small : (q : ℕ) → q ≤ net .segments → WeightsFrom net (net .stages + q) weights → nodeSum net first next weights q ≤ 16320
-  node-weight-small q h a = rw (node-weight q h a) (branches-bounded net o l 255 (l .weights) q h)
+  module _ (t : ℕ) (few : t < placesBy c) (weights gathered : List ℕ) (i : Weighing c b (suc t) weights gathered) where
+    here : at gathered (suc t) ≡ behind (drivingBy c b) (driven c b) t
+    unfolding behind
+    here =
+        i .gathers .held (suc t) (omega arith)
+        ∙ sym (gathered-all (placesBy c) (drivingBy c b .hangsAt) (driven c b) (suc t) (suc t) (λ q h m e. omega (arith, placed k .falls q m)))
 
-  -- the weight of segment i
-  pub segment-weighed : (i : ℕ) → i < net .segments → WeightsFrom net (net .stages + (i + 1)) weights
-      → net .weight i + nodeSum net first next weights (i + 1) ≡ placeWeight net (net .stages + i)
-  unfolding weightBelow
-  segment-weighed i h a =
-      ap (λ (w : ℕ). net .weight i + w) (node-weight (i + 1) (omega arith) a ∙ ap (branches net (net .weight)) (add-one i)) ∙ sym (segment-weight net i)
+    -- the sink's weight and what is gathered behind it
+    pub driven-is : (w : ℕ) → w ≡ sinkWeight c b (order (netBy c b) t) → w + at gathered (suc t) ≡ driven c b t
+    driven-is w e = omega (arith, e, here, weight-behind (netBy c b) (ordered k) t few)
 
-  -- the weight of a stage
-  pub stage-weighed : (s : ℕ) → s < net .stages → WeightsFrom net (net .stages + 0) weights → 2 * nodeSum net first next weights 0 ≡ placeWeight net s
-  unfolding totalWeight
-  stage-weighed s h a =
-      ap (λ (w : ℕ). 2 * w) (node-weight 0 (omega arith) a ∙ branches-whole net (o .parents) (net .weight)) ∙ sym (stage-weight net s h)
+    pub driven-few : (w : ℕ) → w ≡ sinkWeight c b (order (netBy c b) t) → w + at gathered (suc t) ≤ 16575
+    driven-few w e = rw (driven-is w e) (driven-most t few)
 
--- The turn at the segment before i.
-module _ (net : Net) (o : Ordered net) (l : Limited net) (first next weights : List ℕ) (links : Linked net first next)
-    (i : ℕ) (some : 0 < i) (few : i ≤ net .segments) (a : WeightsFrom net (net .stages + i) weights) where
-  back : WeightsFrom net (net .stages + (i - 1 + 1)) weights
-  back = let e : i - 1 + 1 ≡ i = omega arith in rw e a
+    pub gathered-few : (r : ℕ) → r ≤ placesBy c → at gathered r ≤ 1259700
+    gathered-few r h =
+        omega (
+          arith,
+          i .gathers .held r h,
+          gathered-small (placesBy c) (drivingBy c b .hangsAt) (driven c b) (suc t) r 16575 (λ q m n. driven-most q n),
+          mul-le-mul-right 16575 (inLimits k .few),
+        )
 
-  pub turn-small : nodeSum net first next weights (i - 1 + 1) ≤ 16320
-  turn-small = node-weight-small net o l first next weights links (i - 1 + 1) (omega arith) back
-
-  pub turn : (w : ℕ) → w ≡ net .weight (i - 1) + nodeSum net first next weights (i - 1 + 1)
-      → WeightsFrom net (net .stages + (i - 1)) (set weights (net .stages + (i - 1)) w)
-  turn w e =
-      let f : net .stages + i ≡ suc (net .stages + (i - 1)) = omega arith in
-      weights-step net (net .stages + (i - 1)) w weights (omega arith) (rw f at a) (e ∙ segment-weighed net o l first next weights links (i - 1) (omega arith) back)
-
--- Of the first n numbers of a list those from s on are v, the rest of the list is as before.
-pub record Filled (n v : ℕ) (before : List ℕ) (s : ℕ) (after : List ℕ) : Type 0 where
-  pub few : s ≤ n
-  pub long : length after ≡ length before
-  pub same : (q : ℕ) → n ≤ q → at after q ≡ at before q
-  pub done : (q : ℕ) → s ≤ q → q < n → at after q ≡ v
-
-pub filled-start : (n v : ℕ) (before : List ℕ) → Filled n v before n before
-filled-start n v before = record { few = omega arith; long = refl; same = λ q h. refl; done = λ q h l. absurd (omega arith) }
-
-pub filled-step : (n v : ℕ) (before : List ℕ) (s : ℕ) (after : List ℕ) → 0 < s → s ≤ length after → Filled n v before s after
-    → Filled n v before (s - 1) (set after (s - 1) v)
-filled-step n v before s after h l f =
-    record {
-      few = omega (arith, f .few);
-      long = length-set after (s - 1) v ∙ f .long;
-      same = λ q m. getD-set-other after (s - 1) q v 0 (λ e. omega (arith, f .few)) ∙ f .same q m;
-      done = λ q m k. ⊎-elim (λ (e : s - 1 ≡ q). rw (← e) (getD-set-same after (s - 1) v 0 (omega arith)))
-          (λ e. getD-set-other after (s - 1) q v 0 (λ g. omega arith) ∙ f .done q (omega arith) k) (eq-or-lt-of-le m);
-    }
-
-pub filled-end : (net : Net) (v : ℕ) (before after : List ℕ) → Filled (net .stages) v before 0 after → WeightsFrom net (net .stages) before
-    → ((s : ℕ) → s < net .stages → v ≡ placeWeight net s) → WeightsFrom net 0 after
-filled-end net v before after f w e = record { long = rw (f .long) (w .long); held = λ q h l. go q l (decLe (suc q) (net .stages)) }
-  where
-    go : (q : ℕ) → q < places net → Dec (suc q ≤ net .stages) → at after q ≡ placeWeight net q
-    go q l (yes m) = f .done q (omega arith) m ∙ e q m
-    go q l (no m) = f .same q (omega arith) ∙ w .held q (omega arith) l
+    pub weighing-step : (p w v u : ℕ) → p ≡ order (netBy c b) t → w ≡ sinkWeight c b p → v ≡ doubled c p (w + at gathered (suc t)) → u ≡ at gathered (drivingBy c b .hangsAt t) + (w + at gathered (suc t))
+        → Weighing c b t (set weights t v) (set gathered (drivingBy c b .hangsAt t) u)
+    weighing-step p w v u a e f g =
+        let d : w + at gathered (suc t) ≡ driven c b t = driven-is w (e ∙ ap (sinkWeight c b) a) in
+        record {
+          weighs = record {
+            long = rw (length-set weights t v) (i .weighs .long);
+            held = λ q l m. place q m (eq-or-lt-of-le l);
+          };
+          gathers = gathering-step (placesBy c) (drivingBy c b .hangsAt) (driven c b) (driven c b) t gathered few (λ q l m. refl) (i .gathers) u (omega (arith, placed k .falls t few))
+              (g ∙ ap (λ (z : ℕ). at gathered (drivingBy c b .hangsAt t) + z) d);
+        }
+      where
+        place : (q : ℕ) → q < placesBy c → (t ≡ q) ⊎ (t < q) → at (set weights t v) q ≡ drivingBy c b .weight q
+        place q m (inl z) = rw (← z) (getD-set-same weights t v 0 (omega (arith, i .weighs .long)) ∙ f ∙ rw (a, driven-is w (e ∙ ap (sinkWeight c b) a)))
+        place q m (inr z) = getD-set-other weights t q v 0 (λ n. omega arith) ∙ i .weighs .held q z m

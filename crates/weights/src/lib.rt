@@ -1,88 +1,60 @@
-// The weights of the places: of a segment that of the sinks at or below its far end, of a stage twice that of all sinks.
+// The weights of the places, by position: of a wire that of the sinks at or below its far end, of a driver twice that of the sinks that it drives.
 use net::Counts;
 ghost use mathlib.Core.Path.{_≡_};
-ghost use Prim.Native.Nat.{_^_, _<_, _≤_};
+ghost use Prim.Native.Nat.{_<_, _≤_};
 ghost use lib.ListN.{length};
 ghost use Rattle.net.specs.Job.{placesBy};
 ghost use Rattle.net.specs.Checked.{Checked};
-ghost use Rattle.links.specs.Links.{LinkedBy};
-ghost use Rattle.place.specs.ByCounts.{WeighedFrom, Weighed};
-ghost use Rattle.weights.specs.Sums.{sumFrom};
+ghost use Rattle.positions.specs.Arranged.{PlacesInOrder, NodesOf};
+ghost use Rattle.place.specs.ByCounts.{Weighed};
+ghost use Rattle.weights.specs.Sinks.{SinkWeight, doubled};
 
-// The sum of what `values` has at the places of segment j and of its siblings after it.
-fn linked_sum(
-    job: &[u8],
-    counts: Counts,
-    first: &[usize],
-    next: &[usize],
-    values: &[u64],
-    j: usize,
-) -> u64
-    requires { ⌜ LinkedBy counts (now job) (now first) (now next) ⌝ }
-    requires { ⌜ placesBy counts ≤ length (now values) ⌝ }
-    requires { ⌜ sumFrom counts (now job) (now next) (now values) j < 2 ^ 63 ⌝ }
-    ensures { λ r. ⌜ r ≡ sumFrom counts (now (job .entry)) (now (next .entry)) (now (values .entry)) j ⌝ }
+// The weight of the sink at the far end of place p.
+fn sink_weight(job: &[u8], counts: Counts, p: usize) -> u64
+    requires { ⌜ Checked counts (now job) ⌝ }
+    requires { ⌜ p < placesBy counts ⌝ }
+    ensures { λ r. ⌜ SinkWeight counts (now (job .entry)) p r ⌝ }
 {
-    let mut sum = 0;
-    let mut i = j;
-    while i < counts.segments {
-        sum += values[counts.stages + i];
-        i = next[i];
+    if job::is_driver(counts, p) {
+        return 0;
     }
-    sum
+    job::weight(job, counts, p - counts.stages)
 }
 
-// The weight of the sinks at or below each segment's far end, from the last segment to the first.
-fn weigh_segments(
+// The weight of place p, where that of the sinks that it drives is `driven`.
+fn own_weight(counts: Counts, p: usize, driven: u64) -> u64
+    requires { ⌜ driven ≤ 16575 ⌝ }
+    ensures { λ r. ⌜ r ≡ doubled counts p driven ⌝ }
+{
+    if job::is_driver(counts, p) {
+        return 2 * driven;
+    }
+    driven
+}
+
+// The weights of all places, in one pass from the last position to the first.
+pub fn weigh(
     job: &[u8],
     counts: Counts,
-    first: &[usize],
-    next: &[usize],
-    weights: &mut [u64; 68],
+    order: &[usize; 76],
+    hangs: &[usize; 76],
+    weights: &mut [u64; 76],
 )
     requires { ⌜ Checked counts (now job) ⌝ }
-    requires { ⌜ LinkedBy counts (now job) (now first) (now next) ⌝ }
-    requires { ⌜ placesBy counts ≤ length (now weights) ⌝ }
-    ensures { λ r. ⌜ WeighedFrom counts (now (job .entry)) (counts .stages) (now (weights .exit)) ⌝ }
-{
-    let mut i = counts.segments;
-    while i > 0 {
-        i -= 1;
-        let child = first[i + 1];
-        let below = linked_sum(job, counts, first, next, weights, child);
-        weights[counts.stages + i] = job::weight(job, counts, i) + below;
-    }
-}
-
-// The weights of the stages, each twice that of all sinks, where those of the segments are known.
-fn weigh_stages(
-    job: &[u8],
-    counts: Counts,
-    first: &[usize],
-    next: &[usize],
-    weights: &mut [u64; 68],
-)
-    requires { ⌜ Checked counts (now job) ⌝ }
-    requires { ⌜ LinkedBy counts (now job) (now first) (now next) ⌝ }
-    requires { ⌜ WeighedFrom counts (now job) (counts .stages) (now weights) ⌝ }
-    ensures { λ r. ⌜ Weighed counts (now (job .entry)) (now (weights .exit)) ⌝ }
-{
-    let root = first[0];
-    let all = 2 * linked_sum(job, counts, first, next, weights, root);
-    let mut s = counts.stages;
-    while s > 0 {
-        s -= 1;
-        weights[s] = all;
-    }
-}
-
-// The weights of all places.
-pub fn weigh(job: &[u8], counts: Counts, first: &[usize], next: &[usize], weights: &mut [u64; 68])
-    requires { ⌜ Checked counts (now job) ⌝ }
-    requires { ⌜ LinkedBy counts (now job) (now first) (now next) ⌝ }
+    requires { ⌜ PlacesInOrder counts (now job) (now order) ⌝ }
+    requires { ⌜ NodesOf counts (now job) (now hangs) ⌝ }
     requires { ⌜ placesBy counts ≤ length (now weights) ⌝ }
     ensures { λ r. ⌜ Weighed counts (now (job .entry)) (now (weights .exit)) ⌝ }
 {
-    weigh_segments(job, counts, first, next, weights);
-    weigh_stages(job, counts, first, next, weights);
+    // by node
+    let mut gathered = [0u64; 77];
+    let mut t = counts.stages + counts.segments + counts.repeaters;
+    while t > 0 {
+        t -= 1;
+        let p = order[t];
+        let driven = sink_weight(job, counts, p) + gathered[t + 1];
+        weights[t] = own_weight(counts, p, driven);
+        let node = hangs[t];
+        gathered[node] += driven;
+    }
 }

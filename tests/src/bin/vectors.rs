@@ -1,8 +1,10 @@
 //! Writes a file of framed calls and a file of the lines that they have to give.
 
 use numlejka_tests::batches::{
-    BOTH_LAYERS, Counts, LAYER_FAULTS, OUTPUTS, STRAY_SINK, count_expected, damaged_calls, job_of, large_calls, limit_calls,
-    room_calls, small_calls, worked_calls,
+    BOTH_LAYERS, CHAINED, Counts, LAYER_FAULTS, ONE_BEST_REPEATER, OUTPUTS, REPEATER_FAULTS, REPEATERS, STRAY_SINK,
+    TIE_AT_REPEATER, WEIGHTLESS_BEHIND, count_expected, damaged_calls, damaged_repeater_calls, fault_calls, job_of, large_calls,
+    large_repeater_calls, limit_calls, repeated_calls, repeater_calls, repeater_limit_calls, repeater_room_calls, room_calls,
+    small_calls, worked_calls,
 };
 use numlejka_tests::calls::Call;
 use numlejka_tests::random::{Random, SEED};
@@ -11,7 +13,7 @@ use numlejka_tests::random::{Random, SEED};
 const SHORT_JOB: usize = 30 * 16;
 
 /// The most bytes of all frames.
-const MOST_BYTES: usize = 1_000_000;
+const MOST_BYTES: usize = 1_150_000;
 
 /// The most allowed sizings of a job, few so that a slow program is done soon.
 const MOST_ALLOWED: u128 = 200;
@@ -56,11 +58,25 @@ fn longer_calls(random: &mut Random) -> Vec<Call> {
     calls
 }
 
+/// The calls with repeaters: worked, small, damaged, at the limits, refused, with more records, and with much room.
+fn calls_with_repeaters(random: &mut Random) -> Vec<Call> {
+    let mut calls = repeated_calls();
+    calls.extend((0..16).flat_map(|_| repeater_calls(random, MOST_ALLOWED)));
+    calls.extend((0..20).flat_map(|_| damaged_repeater_calls(random, MOST_ALLOWED)));
+    calls.extend(every(13, repeater_limit_calls()));
+    calls.extend(every(5, fault_calls()));
+    calls.retain(|call| job_of(call).len() <= SHORT_JOB);
+    calls.extend(every(41, (0..2).flat_map(|_| large_repeater_calls(random)).collect()));
+    calls.extend(every(7, repeater_room_calls()));
+    calls
+}
+
 /// All calls of the file.
 fn all_calls() -> Vec<Call> {
     let mut random = Random::new(31);
     let mut calls = short_calls(&mut random);
     calls.extend(longer_calls(&mut random));
+    calls.extend(calls_with_repeaters(&mut Random::new(32)));
     calls.into_iter().map(framed).collect()
 }
 
@@ -78,12 +94,14 @@ fn main() -> std::io::Result<()> {
     let mut counts = Counts::new();
     count_expected(&mut counts, &calls);
     assert!(
-        (0..=12).chain([14, 24]).all(|number| counts.contains_key(&("size", number))),
+        (0..=12)
+            .chain([14, 22, 23, 24])
+            .all(|number| counts.contains_key(&("size", number))),
         "every question of size is reached"
     );
     assert!(
         (0..=11)
-            .chain([15, 16, 17, 24])
+            .chain([15, 16, 17, 22, 23, 24])
             .all(|number| counts.contains_key(&("refine", number))),
         "every question of refine is reached"
     );
@@ -100,6 +118,19 @@ fn main() -> std::io::Result<()> {
         "24 comes in each of its ways"
     );
     assert!(counts[&(BOTH_LAYERS, 0)] >= 100, "many calls have segments on both layers");
+    assert!(
+        REPEATER_FAULTS.iter().all(|way| counts.keys().any(|key| key.0 == *way)),
+        "22 and 23 come in each of their ways"
+    );
+    for (kind, least) in [
+        (REPEATERS, 100),
+        (CHAINED, 50),
+        (WEIGHTLESS_BEHIND, 20),
+        (ONE_BEST_REPEATER, 10),
+        (TIE_AT_REPEATER, 2),
+    ] {
+        assert!(counts[&(kind, 0)] >= least, "{kind}");
+    }
     println!("seed {SEED:#x}, {} calls, {} bytes, {counts:?}", calls.len(), frames.len());
     Ok(())
 }

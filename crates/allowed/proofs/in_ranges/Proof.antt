@@ -17,6 +17,9 @@ abbrev μ-loop : tie.MeasureT-loop
 add-places : tie.Need-add-places Inv-loop μ-loop
 add-places c = search needs
 
+add-places-2 : tie.Need-add-places-2 Inv-loop μ-loop
+add-places-2 c = search needs
+
 loop-holds : tie.Need-loop-holds Inv-loop μ-loop
 loop-holds c = begins _ _
 
@@ -49,6 +52,7 @@ in-ranges-spec =
     Inv-loop
     μ-loop
     add-places
+    add-places-2
     loop-holds
     index-in-range-requires
     returns

@@ -6,7 +6,7 @@ use borrow.Author.Needs.{needs}
 use Rattle.net.specs.Net.{netBy}
 use Rattle.net.proofs.Questions.{ordered}
 use Rattle.links.proofs.Siblings.{first-behind}
-use Rattle.elmore.proofs.Tallies.{behind-room, behind-tally, none-tally, Passed, passed-none, passed-all, joined-room, joined-passed}
+use Rattle.elmore.proofs.Tallies.{below-tally, leaf-hanging, behind-room, behind-tally, none-tally, Passed, passed-none, passed-all, joined-room, joined-passed}
 use borrow.Fn.Kinds.{In}
 use borrow.Fn.PlainCycle.{Measures, is, falls, and}
 use Rattle.elmore.proofs.branch.Reads as branch
@@ -16,34 +16,35 @@ use Rattle.elmore.proofs.branches.Reads as branches
 use Rattle.elmore.proofs.branches.Kinds as branches-kinds
 use Rattle.elmore.proofs.+branch+branches.Lts-branches as branches-lts
 use Rattle.elmore.proofs.behind.Reads as behind-reads
+use Rattle.elmore.proofs.hanging.Reads as hanging-reads
 use Rattle.elmore.proofs.joined.Reads as joined-reads
 use Rattle.elmore.proofs.nothing.Reads as nothing-reads
 use Rattle.elmore.proofs.sized.Reads as sized-reads
 use Rattle.elmore.proofs.+branch+branches.{statement}
 use Rattle.elmore.proofs.+branch+branches.Tie.{close}
 
-abbrev μ-branch : Measures 4 branch-kinds.ps ℕ
-μ-branch κs a = 2 * (a .1 .0 .segments - a .1 .1 .1 .1 .1 .0)
+abbrev μ-branch : Measures 5 branch-kinds.ps ℕ
+μ-branch κs a = 2 * (a .1 .0 .segments - a .1 .1 .1 .1 .1 .1 .0)
 
-abbrev μ-branches : Measures 4 branches-kinds.ps ℕ
-μ-branches κs a = 2 * (a .1 .0 .segments - a .1 .1 .1 .1 .1 .0) + 1
+abbrev μ-branches : Measures 5 branches-kinds.ps ℕ
+μ-branches κs a = 2 * (a .1 .0 .segments - a .1 .1 .1 .1 .1 .1 .0) + 1
 
-abbrev branch-at : ℕ → In 4 branch-kinds.ps
-branch-at t = and 4 branch-kinds.ps (is 4 branch-kinds.ps μ-branch t) branch.Pre
+abbrev branch-at : ℕ → In 5 branch-kinds.ps
+branch-at t = and 5 branch-kinds.ps (is 5 branch-kinds.ps μ-branch t) branch.Pre
 
-abbrev branch-below : ℕ → In 4 branch-kinds.ps
-branch-below t = and 4 branch-kinds.ps (falls 4 branch-kinds.ps _<_ μ-branch t) branch.Pre
+abbrev branch-below : ℕ → In 5 branch-kinds.ps
+branch-below t = and 5 branch-kinds.ps (falls 5 branch-kinds.ps _<_ μ-branch t) branch.Pre
 
-abbrev branches-at : ℕ → In 4 branches-kinds.ps
-branches-at t = and 4 branches-kinds.ps (is 4 branches-kinds.ps μ-branches t) branches.Pre
+abbrev branches-at : ℕ → In 5 branches-kinds.ps
+branches-at t = and 5 branches-kinds.ps (is 5 branches-kinds.ps μ-branches t) branches.Pre
 
-abbrev branches-below : ℕ → In 4 branches-kinds.ps
+abbrev branches-below : ℕ → In 5 branches-kinds.ps
 branches-below t =
-    and 4 branches-kinds.ps (falls 4 branches-kinds.ps _<_ μ-branches t) branches.Pre
+    and 5 branches-kinds.ps (falls 5 branches-kinds.ps _<_ μ-branches t) branches.Pre
 
 -- what each callee asks and tells
 abbrev branch-claims : ℕ → branch-lts.Claims
-branch-claims t = (sized-reads.Asked, sized-reads.Learnt, nothing-reads.Asked, nothing-reads.Learnt, behind-reads.Asked, behind-reads.Learnt, branches-below t, branches.Post)
+branch-claims t = (sized-reads.Asked, sized-reads.Learnt, nothing-reads.Asked, nothing-reads.Learnt, behind-reads.Asked, behind-reads.Learnt, branches-below t, branches.Post, hanging-reads.Asked, hanging-reads.Learnt)
 
 abbrev branches-claims : ℕ → branches-lts.Claims
 branches-claims t = (nothing-reads.Asked, nothing-reads.Learnt, branch-below t, branch.Post, joined-reads.Asked, joined-reads.Learnt)
@@ -67,49 +68,51 @@ branch-nothing-requires t c κs = search needs
 branch-behind-requires : (t : ℕ) → branch-lts.Need-behind-requires (branch-claims t) (branch-at t) branch.Post
 branch-behind-requires t c κs =
     let b = c .before .before .before .before .before .before .before .before .before in
-    let a = b .args in
-    let r = b .pre .1 .0 in
-    behind-room r (a .i) _ (b .pre .1 .1 .1) (b .pre .1 .1 .0 .firsts (a .i + 1) (omega arith))
-    _ _ (c .before .before .before .before .sized .ensures) (none-tally _ (omega arith) _ (c .nothing .ensures))
+    let i = b .args .i in
+    let h = b .pre .1 .1 .1 .1 in
+    let u = leaf-hanging (b .pre .1 .0) i _ h (b .pre .1 .1 .0 .firsts (i + 1) (omega arith)) _ (none-tally _ (omega arith) _ (c .nothing .ensures)) (omega arith) in
+    behind-room (b .pre .1 .0) i h _ _ (c .before .before .before .before .sized .ensures) u
 
 branch-returns : (t : ℕ) → branch-lts.Need-returns (branch-claims t) (branch-at t) branch.Post
 branch-returns t c =
     let b = c .before .before .before .before .before .before .before .before .before .before in
-    let a = b .args in
-    let r = b .pre .1 .0 in
-    behind-tally r (a .i) _ (b .pre .1 .1 .1) (b .pre .1 .1 .0 .firsts (a .i + 1) (omega arith))
-    _ _ (c .before .before .before .before .before .sized .ensures) (none-tally _ (omega arith) _ (c .before .nothing .ensures)) _ (c .behind .ensures)
+    let i = b .args .i in
+    let h = b .pre .1 .1 .1 .1 in
+    let u = leaf-hanging (b .pre .1 .0) i _ h (b .pre .1 .1 .0 .firsts (i + 1) (omega arith)) _ (none-tally _ (omega arith) _ (c .before .nothing .ensures)) (omega arith) in
+    behind-tally (b .pre .1 .0) i h _ _ (c .before .before .before .before .before .sized .ensures) u _ (c .behind .ensures)
 
 branch-branches-requires : (t : ℕ) → branch-lts.Need-branches-requires (branch-claims t) (branch-at t) branch.Post
 branch-branches-requires t c κs =
     let b = c .before .before .before .before .before .before .before .before in
-    let a = b .args in
+    let i = b .args .i in
     let r = b .pre .1 .0 in
-    let f = b .pre .1 .1 .0 .firsts (a .i + 1) (omega arith) in
-    (omega (arith, first-behind _ (ordered (r .checked) .parents) (a .i + 1) _ (omega arith) f), (r, (b .pre .1 .1 .0, f .within)))
+    let f = b .pre .1 .1 .0 .firsts (i + 1) (omega arith) in
+    (omega (arith, first-behind _ (ordered (r .checked) .parents) (i + 1) _ (omega arith) f), (r, (b .pre .1 .1 .0, (b .pre .1 .1 .1 .0, f .within))))
+
+branch-hanging-requires : (t : ℕ) → branch-lts.Need-hanging-requires (branch-claims t) (branch-at t) branch.Post
+branch-hanging-requires t c κs =
+    let b = c .before .before .before .before .before .before .before .before .before in
+    let i = b .args .i in
+    let r = b .pre .1 .0 in
+    let h = b .pre .1 .1 .1 .1 in
+    (r, (b .pre .1 .1 .1 .0, (h, below-tally r i _ h (b .pre .1 .1 .0 .firsts (i + 1) (omega arith)) _ (c .branches .ensures))))
 
 branch-behind-requires-2 : (t : ℕ) → branch-lts.Need-behind-requires-2 (branch-claims t) (branch-at t) branch.Post
 branch-behind-requires-2 t c κs =
-    let b = c .before .before .before .before .before .before .before .before .before in
-    let a = b .args in
-    let r = b .pre .1 .0 in
-    behind-room r (a .i) _ (b .pre .1 .1 .1) (b .pre .1 .1 .0 .firsts (a .i + 1) (omega arith))
-    _ _ (c .before .before .before .before .sized .ensures) (c .branches .ensures)
+    let b = c .before .before .before .before .before .before .before .before .before .before in
+    behind-room (b .pre .1 .0) (b .args .i) (b .pre .1 .1 .1 .1) _ _ (c .before .before .before .before .before .sized .ensures) (c .hanging .ensures)
 
 branch-returns-2 : (t : ℕ) → branch-lts.Need-returns-2 (branch-claims t) (branch-at t) branch.Post
 branch-returns-2 t c =
-    let b = c .before .before .before .before .before .before .before .before .before .before in
-    let a = b .args in
-    let r = b .pre .1 .0 in
-    behind-tally r (a .i) _ (b .pre .1 .1 .1) (b .pre .1 .1 .0 .firsts (a .i + 1) (omega arith))
-    _ _ (c .before .before .before .before .before .sized .ensures) (c .before .branches .ensures) _ (c .behind2 .ensures)
+    let b = c .before .before .before .before .before .before .before .before .before .before .before in
+    behind-tally (b .pre .1 .0) (b .args .i) (b .pre .1 .1 .1 .1) _ _ (c .before .before .before .before .before .before .sized .ensures) (c .before .hanging .ensures) _ (c .behind2 .ensures)
 
 -- what is counted up over the siblings passed
 abbrev branches-Inv-loop : branches-lts.InvT-loop
-branches-Inv-loop job counts first next sizing j sum₀ i₀ sum i = Passed (netBy counts job) sizing j i sum
+branches-Inv-loop job counts first next seats sizing j sum₀ i₀ sum i = Passed (netBy counts job) sizing j i sum
 
 abbrev branches-μ-loop : branches-lts.MeasureT-loop
-branches-μ-loop job counts first next sizing j sum₀ i₀ sum i = counts .segments - i
+branches-μ-loop job counts first next seats sizing j sum₀ i₀ sum i = counts .segments - i
 
 branches-nothing-requires : (t : ℕ) → branches-lts.Need-nothing-requires (branches-claims t) (branches-at t) branches.Post branches-Inv-loop branches-μ-loop
 branches-nothing-requires t c κs = search needs
@@ -117,12 +120,12 @@ branches-nothing-requires t c κs = search needs
 branches-loop-holds : (t : ℕ) → branches-lts.Need-loop-holds (branches-claims t) (branches-at t) branches.Post branches-Inv-loop branches-μ-loop
 branches-loop-holds t c =
     let b = c .before .before .before .before .before in
-    passed-none (b .args .j) (b .pre .1 .1 .1) _ (c .nothing .ensures)
+    passed-none (b .args .j) (b .pre .1 .1 .1 .1) _ (c .nothing .ensures)
 
 branches-branch-requires : (t : ℕ) → branches-lts.Need-branch-requires (branches-claims t) (branches-at t) branches.Post branches-Inv-loop branches-μ-loop
 branches-branch-requires t c κs =
     let b = c .before .before .before .before .before .before .before .before in
-    (omega (arith, c .before .before .loop .inv .from, b .pre .0), (b .pre .1 .0, (b .pre .1 .1 .0, omega arith)))
+    (omega (arith, c .before .before .loop .inv .from, b .pre .0), (b .pre .1 .0, (b .pre .1 .1 .0, (b .pre .1 .1 .1 .0, omega arith))))
 
 branches-joined-requires : (t : ℕ) → branches-lts.Need-joined-requires (branches-claims t) (branches-at t) branches.Post branches-Inv-loop branches-μ-loop
 branches-joined-requires t c κs =
@@ -177,6 +180,7 @@ pub +branch+branches-spec : {M : Type 1} → statement M
     (branch-behind-requires t)
     (branch-returns t)
     (branch-branches-requires t)
+    (branch-hanging-requires t)
     (branch-behind-requires-2 t)
     (branch-returns-2 t))
     λ t. branches-lts.spec (branches-claims t)

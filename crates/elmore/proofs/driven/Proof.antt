@@ -1,9 +1,9 @@
--- `elmore::driven` meets its contract: the sum over segments is the sum over sinks, and what the stages charge is the load figure.
+-- `elmore::driven` meets its contract: the sum over segments and repeaters is the sum over sinks, and what the drivers charge is the load figure.
 use mathlib.Core.Path.{_∙_}
 use native.Mathlib.Omega.{arith}
-use Rattle.net.proofs.Questions.{ordered, limited, checked-charged}
+use Rattle.net.proofs.Questions.{ordered, limited}
 use Rattle.net.proofs.Bound.{stagesDelay-small, delay-fits}
-use Rattle.elmore.proofs.Tallies.{whole-driven, whole-delay}
+use Rattle.elmore.proofs.Tallies.{whole-driven, whole-delay, figure-room, whole-figure}
 use borrow.Author.Needs.{needs}
 use Rattle.elmore.proofs.driven.Statement.{statement}
 use Rattle.elmore.proofs.driven.Tie as tie
@@ -19,20 +19,25 @@ weighted-requires c κs =
 
 weighted-requires-2 : tie.Need-weighted-requires-2
 weighted-requires-2 c κs =
-    let b = c .before .before .before .before .before in
-    rw (c .before .weighted .ensures .0) (whole-driven (b .pre .0) _ (b .pre .1) _ (c .before .before .stages .ensures .delay))
+    let b = c .before .before .before .before in
+    rw (c .weighted .ensures .0) (whole-driven (b .pre .0) _ (b .pre .1) _ (c .before .stages .ensures .delay))
 
 add-delay-requires : tie.Need-add-delay-requires
 add-delay-requires c κs =
-    let b = c .before .before .before .before .before .before in
+    let b = c .before .before .before .before .before in
     let r = b .pre .0 in
     let k = r .checked in
     omega (
       arith,
-      whole-delay r _ (b .pre .1) _ (c .before .before .before .stages .ensures .delay),
+      whole-delay r _ (b .pre .1) _ (c .before .before .stages .ensures .delay),
       delay-fits _ (ordered k) (limited k) _ (r .inRanges),
-      rw (c .before .before .weighted .ensures .0) at (c .weighted2 .ensures .0),
+      rw (c .before .weighted .ensures .0) at (c .weighted2 .ensures .0),
     )
+
+add-capacitance-requires : tie.Need-add-capacitance-requires
+add-capacitance-requires c κs =
+    let b = c .before .before .before .before .before .before in
+    omega (arith, figure-room (b .pre .0) _ (b .pre .1) _ (c .before .before .before .stages .ensures .load))
 
 returns : tie.Need-returns
 returns c =
@@ -40,11 +45,17 @@ returns c =
     let chain = c .before .before .before .before .stages .ensures in
     let whole = whole-delay (b .pre .0) _ (b .pre .1) _ (chain .delay) in
     record {
-      delay = omega (arith, whole, rw (c .before .before .before .weighted .ensures .0) at (c .before .weighted2 .ensures .0));
-      load = chain .load ∙ checked-charged (b .pre .0 .checked) _;
+      delay = omega (arith, whole, c .before .add-delay .ensures .0, rw (c .before .before .before .weighted .ensures .0) at (c .before .before .weighted2 .ensures .0));
+      load = c .add-capacitance .ensures .0 ∙ whole-figure (b .pre .0) _ (b .pre .1) _ (chain .load);
     }
 
 pub driven-spec : {M : Type 1} → statement M
 driven-spec =
     tie.close
-    (tie.spec stages-requires weighted-requires weighted-requires-2 add-delay-requires returns)
+    (tie.spec
+    stages-requires
+    weighted-requires
+    weighted-requires-2
+    add-delay-requires
+    add-capacitance-requires
+    returns)

@@ -57,6 +57,12 @@ add-places c =
     let z : k .result .number ≡ 0 = omega arith in
     omega (arith, k .ensures .passed z .fewStages, k .ensures .passed z .fewSegments)
 
+add-places-2 : tie.Need-add-places-2
+add-places-2 c =
+    let k = c .before .before .before .before .before .before .before .before .before .before .before .check in
+    let z : k .result .number ≡ 0 = omega arith in
+    omega (arith, k .ensures .passed z .fewStages, k .ensures .passed z .fewSegments, k .ensures .passed z .fewRepeaters)
+
 slice-aggregate-delay : tie.Need-slice-aggregate-delay
 slice-aggregate-delay c = search needs
 
@@ -65,10 +71,10 @@ slice-aggregate-delay-2 c = search needs
 
 delay-requires : tie.Need-delay-requires
 delay-requires c κs =
-    let b = c .before .before .before .before .before .before .before .before .before .before .before .before .before .before .before .before .before .before in
-    let k = c .before .before .before .before .before .before .before .before .before .before .before .before .check in
+    let b = c .before .before .before .before .before .before .before .before .before .before .before .before .before .before .before .before .before .before .before in
+    let k = c .before .before .before .before .before .before .before .before .before .before .before .before .before .check in
     let z : k .result .number ≡ 0 = omega arith in
-    let n = c .before .before .before .before .before .before .sizing-number in
+    let n = c .before .before .before .before .before .before .before .sizing-number in
     let u : n .result ≡ 0 = omega (arith, n .ensures) in
     (record { checked = k .ensures .passed z; inRanges = number-ranges (netBy (k .result .counts) (b .args .job .now)) (b .args .x .now) (sym (n .ensures) ∙ u) }, k .ensures .linked z)
 
@@ -80,35 +86,35 @@ slice-aggregate-delay-4 c = search needs
 
 delay-requires-2 : tie.Need-delay-requires-2
 delay-requires-2 c κs =
-    let b = c .before .before .before .before .before .before .before .before .before .before .before .before .before .before .before .before .before .before .before .before .before in
-    let k = c .before .before .before .before .before .before .before .before .before .before .before .before .before .before .before .check in
-    let z : k .result .number ≡ 0 = omega (arith, c .before .before .before .before .before .before .before .before .before .before .before .if1 .left) in
-    let m = c .before .before .before .before .before .before .before .sizing-number2 in
-    let v : m .result ≡ 0 = omega (arith, c .before .before .before .before .before .before .if3 .left) in
+    let b = c .before .before .before .before .before .before .before .before .before .before .before .before .before .before .before .before .before .before .before .before .before .before in
+    let k = c .before .before .before .before .before .before .before .before .before .before .before .before .before .before .before .before .check in
+    let z : k .result .number ≡ 0 = omega (arith, c .before .before .before .before .before .before .before .before .before .before .before .before .if1 .left) in
+    let m = c .before .before .before .before .before .before .before .before .sizing-number2 in
+    let v : m .result ≡ 0 = omega (arith, c .before .before .before .before .before .before .before .if3 .left) in
     (record { checked = k .ensures .passed z; inRanges = number-ranges (netBy (k .result .counts) (b .args .job .now)) (b .args .y .now) (sym (m .ensures) ∙ v) }, k .ensures .linked z)
 
 returns-4 : tie.Need-returns-4
 returns-4 c =
-    let b = c .before .before .before .before .before .before .before .before .before .before .before .before .before .before .before .before .before .before .before .before .before .before .before .before .before in
-    let k = c .before .before .before .before .before .before .before .before .before .before .before .before .before .before .before .before .before .before .before .check in
-    let z : k .result .number ≡ 0 = omega (arith, c .before .before .before .before .before .before .before .before .before .before .before .before .before .before .before .if1 .left) in
-    let n = c .before .before .before .before .before .before .before .before .before .before .before .before .before .sizing-number in
-    let u : n .result ≡ 0 = omega (arith, c .before .before .before .before .before .before .before .before .before .before .before .before .if2 .left) in
-    let m = c .before .before .before .before .before .before .before .before .before .before .before .sizing-number2 in
-    let v : m .result ≡ 0 = omega (arith, c .before .before .before .before .before .before .before .before .before .before .if3 .left) in
+    let b = c .before .before .before .before .before .before .before .before .before .before .before .before .before .before .before .before .before .before .before .before .before .before .before .before .before .before in
+    let k = c .before .before .before .before .before .before .before .before .before .before .before .before .before .before .before .before .before .before .before .before .check in
+    let z : k .result .number ≡ 0 = omega (arith, c .before .before .before .before .before .before .before .before .before .before .before .before .before .before .before .before .if1 .left) in
+    let n = c .before .before .before .before .before .before .before .before .before .before .before .before .before .before .sizing-number in
+    let u : n .result ≡ 0 = omega (arith, c .before .before .before .before .before .before .before .before .before .before .before .before .before .if2 .left) in
+    let m = c .before .before .before .before .before .before .before .before .before .before .before .before .sizing-number2 in
+    let v : m .result ≡ 0 = omega (arith, c .before .before .before .before .before .before .before .before .before .before .before .if3 .left) in
     let d = c .before .before .before .before .before .before .delay in
     let e = c .before .before .before .delay2 in
     prefer-first (b .args .job .now) (b .args .x .now) (b .args .y .now) (k .ensures .passed z) (sym (k .ensures .number) ∙ z) (sym (n .ensures) ∙ u) (sym (m .ensures) ∙ v) (d .result .0) (e .result .0) (d .ensures) (e .ensures) (omega arith)
 
 returns-5 : tie.Need-returns-5
 returns-5 c =
-    let b = c .before .before .before .before .before .before .before .before .before .before .before .before .before .before .before .before .before .before .before .before .before .before .before .before .before in
-    let k = c .before .before .before .before .before .before .before .before .before .before .before .before .before .before .before .before .before .before .before .check in
-    let z : k .result .number ≡ 0 = omega (arith, c .before .before .before .before .before .before .before .before .before .before .before .before .before .before .before .if1 .left) in
-    let n = c .before .before .before .before .before .before .before .before .before .before .before .before .before .sizing-number in
-    let u : n .result ≡ 0 = omega (arith, c .before .before .before .before .before .before .before .before .before .before .before .before .if2 .left) in
-    let m = c .before .before .before .before .before .before .before .before .before .before .before .sizing-number2 in
-    let v : m .result ≡ 0 = omega (arith, c .before .before .before .before .before .before .before .before .before .before .if3 .left) in
+    let b = c .before .before .before .before .before .before .before .before .before .before .before .before .before .before .before .before .before .before .before .before .before .before .before .before .before .before in
+    let k = c .before .before .before .before .before .before .before .before .before .before .before .before .before .before .before .before .before .before .before .before .check in
+    let z : k .result .number ≡ 0 = omega (arith, c .before .before .before .before .before .before .before .before .before .before .before .before .before .before .before .before .if1 .left) in
+    let n = c .before .before .before .before .before .before .before .before .before .before .before .before .before .before .sizing-number in
+    let u : n .result ≡ 0 = omega (arith, c .before .before .before .before .before .before .before .before .before .before .before .before .before .if2 .left) in
+    let m = c .before .before .before .before .before .before .before .before .before .before .before .before .sizing-number2 in
+    let v : m .result ≡ 0 = omega (arith, c .before .before .before .before .before .before .before .before .before .before .before .if3 .left) in
     let d = c .before .before .before .before .before .before .delay in
     let e = c .before .before .before .delay2 in
     prefer-second (b .args .job .now) (b .args .x .now) (b .args .y .now) (k .ensures .passed z) (sym (k .ensures .number) ∙ z) (sym (n .ensures) ∙ u) (sym (m .ensures) ∙ v) (d .result .0) (e .result .0) (d .ensures) (e .ensures) (omega arith)
@@ -126,6 +132,7 @@ prefer-spec =
     sizing-number-requires-2
     returns-3
     add-places
+    add-places-2
     slice-aggregate-delay
     slice-aggregate-delay-2
     delay-requires

@@ -47,43 +47,44 @@ add-places c =
     let z : k .result .number ≡ 0 = omega arith in
     omega (arith, k .ensures .passed z .fewStages, k .ensures .passed z .fewSegments)
 
-returns-3 : tie.Need-returns-3
-returns-3 c =
+add-places-2 : tie.Need-add-places-2
+add-places-2 c =
     let b = c .before .before .before .before .before .before .before .before .before .before .before .before .before .before in
     let k = c .before .before .before .before .before .before .before .before .before .check in
     let z : k .result .number ≡ 0 = omega arith in
-    let y : c .before .before .before .sizing-number .result ≡ 0 = omega arith in
-    (refine-place (b .args .job .now) (b .args .sizing .now) (k .ensures .passed z) (sym (k .ensures .number) ∙ z) (b .args .place) (sym (c .before .before .before .sizing-number .ensures) ∙ y) (omega arith), omega arith)
+    omega (arith, k .ensures .passed z .fewStages, k .ensures .passed z .fewSegments, k .ensures .passed z .fewRepeaters)
 
-slice-aggregate-held : tie.Need-slice-aggregate-held
-slice-aggregate-held c =
+returns-3 : tie.Need-returns-3
+returns-3 c =
     let b = c .before .before .before .before .before .before .before .before .before .before .before .before .before .before .before in
     let k = c .before .before .before .before .before .before .before .before .before .before .check in
     let z : k .result .number ≡ 0 = omega arith in
     let y : c .before .before .before .before .sizing-number .result ≡ 0 = omega arith in
-    sym (length-take-le (places (netBy (k .result .counts) (b .args .job .now))) (b .args .sizing .now) (number-ranges (netBy (k .result .counts) (b .args .job .now)) (b .args .sizing .now) (sym (c .before .before .before .before .sizing-number .ensures) ∙ y) .long))
+    (refine-place (b .args .job .now) (b .args .sizing .now) (k .ensures .passed z) (sym (k .ensures .number) ∙ z) (b .args .place) (sym (c .before .before .before .before .sizing-number .ensures) ∙ y) (omega arith), omega arith)
 
-slice-aggregate-refine-at : tie.Need-slice-aggregate-refine-at
-slice-aggregate-refine-at c = search needs
-
-slice-aggregate-refine-at-2 : tie.Need-slice-aggregate-refine-at-2
-slice-aggregate-refine-at-2 c = search needs
+slice-aggregate-held : tie.Need-slice-aggregate-held
+slice-aggregate-held c =
+    let b = c .before .before .before .before .before .before .before .before .before .before .before .before .before .before .before .before in
+    let k = c .before .before .before .before .before .before .before .before .before .before .before .check in
+    let z : k .result .number ≡ 0 = omega arith in
+    let y : c .before .before .before .before .before .sizing-number .result ≡ 0 = omega arith in
+    sym (length-take-le (places (netBy (k .result .counts) (b .args .job .now))) (b .args .sizing .now) (number-ranges (netBy (k .result .counts) (b .args .job .now)) (b .args .sizing .now) (sym (c .before .before .before .before .before .sizing-number .ensures) ∙ y) .long))
 
 refine-at-requires : tie.Need-refine-at-requires
 refine-at-requires c κs =
-    let b = c .before .before .before .before .before .before .before .before .before .before .before .before .before .before .before .before .before in
-    let k = c .before .before .before .before .before .before .before .before .before .before .before .before .check in
+    let b = c .before .before .before .before .before .before .before .before .before .before .before .before .before .before .before .before in
+    let k = c .before .before .before .before .before .before .before .before .before .before .before .check in
     let z : k .result .number ≡ 0 = omega arith in
-    let y : c .before .before .before .before .before .before .sizing-number .result ≡ 0 = omega arith in
-    (k .ensures .passed z, (k .ensures .linked z, (sizing-allowed (netBy (k .result .counts) (b .args .job .now)) (b .args .sizing .now) (sym (c .before .before .before .before .before .before .sizing-number .ensures) ∙ y), omega arith)))
+    let y : c .before .before .before .before .before .sizing-number .result ≡ 0 = omega arith in
+    (k .ensures .passed z, (sizing-allowed (netBy (k .result .counts) (b .args .job .now)) (b .args .sizing .now) (sym (c .before .before .before .before .before .sizing-number .ensures) ∙ y), omega arith))
 
 returns-4 : tie.Need-returns-4
 returns-4 c =
-    let b = c .before .before .before .before .before .before .before .before .before .before .before .before .before .before .before .before .before .before in
-    let k = c .before .before .before .before .before .before .before .before .before .before .before .before .before .check in
+    let b = c .before .before .before .before .before .before .before .before .before .before .before .before .before .before .before .before .before in
+    let k = c .before .before .before .before .before .before .before .before .before .before .before .before .check in
     let z : k .result .number ≡ 0 = omega arith in
-    let y : c .before .before .before .before .before .before .before .sizing-number .result ≡ 0 = omega arith in (
-      refine-answer (b .args .job .now) (b .args .sizing .now) (k .ensures .passed z) (sym (k .ensures .number) ∙ z) (b .args .place) (c .refine-at .result) (sym (c .before .before .before .before .before .before .before .sizing-number .ensures) ∙ y) (omega arith)
+    let y : c .before .before .before .before .before .before .sizing-number .result ≡ 0 = omega arith in (
+      refine-answer (b .args .job .now) (b .args .sizing .now) (k .ensures .passed z) (sym (k .ensures .number) ∙ z) (b .args .place) (c .refine-at .result) (sym (c .before .before .before .before .before .before .sizing-number .ensures) ∙ y) (omega arith)
           (c .refine-at .ensures),
       tt,
     )
@@ -99,9 +100,8 @@ refine-spec =
     sizing-number-requires
     returns-2
     add-places
+    add-places-2
     returns-3
     slice-aggregate-held
-    slice-aggregate-refine-at
-    slice-aggregate-refine-at-2
     refine-at-requires
     returns-4)

@@ -2,7 +2,6 @@
 use mathlib.Core.Path.{_∙_}
 use borrow.Author.Needs.{needs}
 use native.Mathlib.Omega.{arith}
-use Rattle.net.specs.Net.{netBy}
 use Rattle.net.proofs.Questions.{wire-small}
 use Rattle.place.proofs.Steps.{through-small, weighted-small, segment-step-of}
 use Rattle.place.proofs.segment_step.Statement.{statement}
@@ -48,7 +47,7 @@ charged-upstream-requires c κs =
 returns : tie.Need-returns
 returns c =
     let b = c .before .before .before .before .before .before .before .before .before in
-    segment-step-of (netBy (b .args .counts) (b .args .job .now)) (b .args .weight) (b .args .upstream .0) (b .args .k) (b .args .driven .0) _ (b .args .i) (c .charged-upstream .ensures .1 ∙ c .before .add-capacitance .ensures .0 ∙ cc (c .before .before .before .before .before .before .before .wire-from .ensures .capacitance)) (c .charged-upstream .ensures .0 ∙ cc (c .before .before .weighted .ensures .0, c .before .before .before .delay-through .ensures .0, c .before .before .before .before .charged-twice .ensures .0, c .before .add-capacitance .ensures .0, c .before .before .before .before .before .before .before .wire-from .ensures .resistance, c .before .before .before .before .before .before .before .wire-from .ensures .capacitance)) (c .charged-upstream .ensures .2)
+    segment-step-of (b .args .counts) (b .args .job .now) (b .args .weight) (b .args .upstream .0) (b .args .k) (b .args .driven .0) _ (b .args .i) (omega arith) (c .charged-upstream .ensures .1 ∙ c .before .add-capacitance .ensures .0 ∙ cc (c .before .before .before .before .before .before .before .wire-from .ensures .capacitance)) (c .charged-upstream .ensures .0 ∙ cc (c .before .before .weighted .ensures .0, c .before .before .before .delay-through .ensures .0, c .before .before .before .before .charged-twice .ensures .0, c .before .add-capacitance .ensures .0, c .before .before .before .before .before .before .before .wire-from .ensures .resistance, c .before .before .before .before .before .before .before .wire-from .ensures .capacitance)) (c .charged-upstream .ensures .2)
 
 pub segment-step-spec : {M : Type 1} → statement M
 segment-step-spec =

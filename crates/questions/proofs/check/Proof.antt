@@ -1,7 +1,7 @@
--- `questions::check` meets its contract: a no to a question before 11 decides, else question 11, asked by the links.
+-- `questions::check` meets its contract: a no to a question before 11 decides, else those that are asked by the links.
 use native.Mathlib.Omega.{arith}
 use borrow.Author.Needs.{needs}
-use Rattle.questions.proofs.Numbers.{check-early, check-eleven, check-passed}
+use Rattle.questions.proofs.Numbers.{check-early, check-linked}
 use Rattle.questions.proofs.check.Statement.{statement}
 use Rattle.questions.proofs.check.Tie as tie
 
@@ -17,8 +17,8 @@ link-requires c κs =
     let l = e .before .before .questions-from-1 .ensures .passes (e .if1 .left) in
     (l .held, (l .parents, omega arith))
 
-question11-requires : tie.Need-question11-requires
-question11-requires c κs =
+questions-from-11-requires : tie.Need-questions-from-11-requires
+questions-from-11-requires c κs =
     let e = c .before .before .before .before .before .before .before .before .before in
     let l = e .before .before .questions-from-1 .ensures .passes (e .if1 .left) in
     let k = c .before .before .before .before .before .link .ensures .0 in
@@ -32,20 +32,9 @@ same-length-2 c = search needs
 
 returns-2 : tie.Need-returns-2
 returns-2 c =
-    let e = c .before .before .before .before .before .before .before .before .before .before .before in
-    check-eleven (e .before .before .questions-from-1 .ensures) (e .if1 .left) (c .before .question11 .ensures) (c .if2 .taken)
-
-same-length-3 : tie.Need-same-length-3
-same-length-3 c = search needs
-
-same-length-4 : tie.Need-same-length-4
-same-length-4 c = search needs
-
-returns-3 : tie.Need-returns-3
-returns-3 c =
-    let e = c .before .before .before .before .before .before .before .before .before .before .before in
-    let l = c .before .before .before .before .before .before .before .link .ensures .0 in
-    check-passed (e .before .before .questions-from-1 .ensures) (e .if1 .left) (c .before .question11 .ensures) (c .if2 .left) l
+    let e = c .before .before .before .before .before .before .before .before .before .before in
+    let l = c .before .before .before .before .before .before .link .ensures .0 in
+    check-linked (e .before .before .questions-from-1 .ensures) (e .if1 .left) _ (c .questions-from-11 .ensures) l
 
 pub check-spec : {M : Type 1} → statement M
 check-spec =
@@ -54,10 +43,7 @@ check-spec =
     questions-from-1-requires
     returns
     link-requires
-    question11-requires
+    questions-from-11-requires
     same-length
     same-length-2
-    returns-2
-    same-length-3
-    same-length-4
-    returns-3)
+    returns-2)

@@ -25,15 +25,19 @@ words-within-requires-3 c κs = search needs
 words-within-requires-4 : tie.Need-words-within-requires-4
 words-within-requires-4 c κs = search needs
 
+repeaters-zero-requires : tie.Need-repeaters-zero-requires
+repeaters-zero-requires c κs = search needs
+
 returns : tie.Need-returns
 returns c =
     question5-by _ _
-    (c .before .before .before .before .before .bytes-zero .ensures)
-    (c .before .before .before .before .words-within .ensures)
-    (c .before .before .before .bytes-zero2 .ensures)
-    (c .before .before .words-within2 .ensures)
-    (c .before .words-within3 .ensures)
-    (c .words-within4 .ensures)
+    (c .before .before .before .before .before .before .bytes-zero .ensures)
+    (c .before .before .before .before .before .words-within .ensures)
+    (c .before .before .before .before .bytes-zero2 .ensures)
+    (c .before .before .before .words-within2 .ensures)
+    (c .before .before .words-within3 .ensures)
+    (c .before .words-within4 .ensures)
+    (c .repeaters-zero .ensures)
 
 pub question5-spec : {M : Type 1} → statement M
 question5-spec =
@@ -46,4 +50,5 @@ question5-spec =
     words-within-requires-2
     words-within-requires-3
     words-within-requires-4
+    repeaters-zero-requires
     returns)

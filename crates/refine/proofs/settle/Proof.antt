@@ -4,15 +4,15 @@ use borrow.Author.Needs.{needs}
 use native.Mathlib.Omega.{arith}
 use Prim.Native.Nat.{_+_, _-_, _^_, _≤_, _<_}
 use Rattle.lattice.proofs.Scan.{Scanned, scan-start, scan-less, scan-tie, scan-more}
-use Rattle.net.specs.Net.{netBy}
-use Rattle.place.specs.Partial.{cost}
+use Rattle.net.specs.Order.{placedBy}
+use Rattle.net.specs.Driving.{cost}
 use Rattle.refine.proofs.Settling.{scanned-settled}
 use Rattle.refine.proofs.settle.Statement.{statement}
 use Rattle.refine.proofs.settle.Tie as tie
 
 abbrev Inv-loop : tie.InvT-loop
 Inv-loop job counts weight upstream place driven rows length top lowest₀ highest₀ least₀ k₀ lowest highest least k =
-    Scanned (netBy counts job .lowest place) (cost (netBy counts job) weight (upstream .0) place (driven .0)) (k + 1) lowest highest (least .0) × (k ≤ top) × (least .0 < 2 ^ 63)
+    Scanned (placedBy counts job .lowest place) (cost (placedBy counts job) weight (upstream .0) place (driven .0)) (k + 1) lowest highest (least .0) × (k ≤ top) × (least .0 < 2 ^ 63)
 
 abbrev μ-loop : tie.MeasureT-loop
 μ-loop job counts weight upstream place driven rows length top lowest₀ highest₀ least₀ k₀ lowest highest least k = top - k
@@ -44,7 +44,7 @@ loop-holds c =
     let b = c .before .before .before .before .before .before .before .before in
     let p = b .args .place in
     let low = c .before .before .index .ensures .0 ∙ c .before .before .before .lowest .ensures in (
-      scan-start (netBy (b .args .counts) (b .args .job .now) .lowest p) _ _ _ low (c .before .step-to .ensures .delay),
+      scan-start (placedBy (b .args .counts) (b .args .job .now) .lowest p) _ _ _ low (c .before .step-to .ensures .delay),
       omega (arith, low, c .before .before .before .before .highest .ensures, b .pre .0 .ranges p (b .pre .1 .0)),
       c .before .step-to .ensures .fits,
     )
@@ -96,7 +96,7 @@ cast-t21 c = omega (arith, c .before .loop .inv .0 .high .high, c .before .loop 
 returns : tie.Need-returns Inv-loop μ-loop
 returns c =
     let b = c .before .before .before .before .before .before .before .before .before .before in
-    scanned-settled (netBy (b .args .counts) (b .args .job .now)) _ _ (b .args .place) _ _ _ (c .before .loop .inv .0) (c .before .loop .inv .2)
+    scanned-settled (placedBy (b .args .counts) (b .args .job .now)) _ _ (b .args .place) _ _ _ (c .before .loop .inv .0) (c .before .loop .inv .2)
     (omega (arith, c .before .loop .inv .1, c .loop-test .left, c .before .before .before .before .before .before .highest .ensures))
 
 pub settle-spec : {M : Type 1} → statement M

@@ -1,7 +1,7 @@
 -- `reply::bounds_only` meets its contract: every byte of the largest number is 255.
 use native.Mathlib.Omega.{arith}
 use lib.ListN.{length}
-use Rattle.lattice.specs.Lists.{at}
+use Rattle.reply.specs.Records.{ofPlace}
 use Rattle.reply.proofs.Places.{none-known}
 use borrow.Author.Needs.{needs}
 use Rattle.reply.proofs.bounds_only.Statement.{statement}
@@ -14,15 +14,17 @@ slice-aggregate-put-reply-2 : tie.Need-slice-aggregate-put-reply-2
 slice-aggregate-put-reply-2 c = search needs
 
 put-reply-requires : tie.Need-put-reply-requires
-put-reply-requires c κs = search needs
+put-reply-requires c κs =
+    let b = c .before .before .before .before .before .before in (b .pre .0, (b .pre .1 .1, (omega (arith, b .pre .1 .0), (omega (arith, b .pre .1 .1 .0), omega (arith, b .pre .1 .1 .0)))))
 
 same-length : tie.Need-same-length
 same-length c = search needs
 
 returns : tie.Need-returns
 returns c =
-    let b = c .before .before .before .before .before .before .before .before .before .args in
-    rw (c .before .before .put-reply .ensures, none-known (length (b .lower .now)) (at (b .lower .now)) (at (b .upper .now)) (omega arith))
+    let b = c .before .before .before .before .before .before .before .before .before in
+    let q = b .args .position .now in
+    rw (c .before .before .put-reply .ensures, none-known (length (b .args .lower .now)) q (ofPlace q (b .args .lower .now)) (ofPlace q (b .args .upper .now)) (b .pre .1 .1 .0) (b .pre .1 .1 .1))
 
 pub bounds-only-spec : {M : Type 1} → statement M
 bounds-only-spec =

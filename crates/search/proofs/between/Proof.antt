@@ -1,56 +1,58 @@
 -- `search::between` meets its contract: it fills the tables as the search asks.
-use Rattle.net.proofs.Questions.{allowed-long}
-use Rattle.net.specs.Net.{netBy}
+use Rattle.net.proofs.InOrder.{allowed-by}
+use Rattle.net.specs.Order.{drivingBy}
 use native.Mathlib.Omega.{arith}
 use borrow.Author.Needs.{needs}
 use Rattle.search.proofs.between.Statement.{statement}
 use Rattle.search.proofs.between.Tie as tie
-use Rattle.search.proofs.between.Reads as reads
-use Rattle.search.proofs.between.Lts as lts
-use Rattle.place.proofs.drive.Reads as drive-reads
-use Rattle.place.proofs.go_upstream.Reads as go-upstream-reads
-use Rattle.search.proofs.lift.Reads as lift-reads
-use Rattle.search.proofs.skip.Reads as skip-reads
-use Rattle.search.proofs.start.Reads as start-reads
 
 drive-requires : tie.Need-drive-requires
 drive-requires c κs =
     let b = c .before .before .before .before .before .before .before in
-    (b .pre .0 .checked, (b .pre .0 .lowerAllowed, (omega (arith, allowed-long (netBy (b .args .counts) (b .args .job .now)) (b .args .upper .now) (b .pre .0 .upperAllowed)), omega (arith, b .pre .0 .checked .fewStages, b .pre .0 .checked .fewSegments))))
+    let k = b .pre .1 .1 .0 in
+    (k .checked, (b .pre .0, (b .pre .1 .0, (k .lowerAllowed, (omega (arith, allowed-by (drivingBy (b .args .counts) (b .args .job .now)) (b .args .upper .now) .0 (k .upperAllowed) .long), omega (arith, k .checked .fewStages, k .checked .fewSegments, k .checked .fewRepeaters))))))
 
 add-places : tie.Need-add-places
 add-places c = search needs
 
+add-places-2 : tie.Need-add-places-2
+add-places-2 c = search needs
+
 go-upstream-requires : tie.Need-go-upstream-requires
 go-upstream-requires c κs =
-    let b = c .before .before .before .before .before .before .before .before .before .before in
-    (b .pre .0 .checked, (b .pre .0 .weighed, (b .pre .0 .lowerAllowed, (omega (arith, allowed-long (netBy (b .args .counts) (b .args .job .now)) (b .args .upper .now) (b .pre .0 .upperAllowed)), (omega arith, omega (arith, b .pre .0 .checked .fewStages, b .pre .0 .checked .fewSegments))))))
+    let b = c .before .before .before .before .before .before .before .before .before .before .before in
+    let k = b .pre .1 .1 .0 in
+    (k .checked, (b .pre .0, (b .pre .1 .0, (k .weighed, (k .lowerAllowed, (omega (arith, allowed-by (drivingBy (b .args .counts) (b .args .job .now)) (b .args .upper .now) .0 (k .upperAllowed) .long), (omega arith, omega (arith, k .checked .fewStages, k .checked .fewSegments, k .checked .fewRepeaters))))))))
 
 lift-requires : tie.Need-lift-requires
 lift-requires c κs =
-    let b = c .before .before .before .before .before .before .before .before .before .before .before .before in
-    (b .pre .0 .checked, ((omega (arith, allowed-long (netBy (b .args .counts) (b .args .job .now)) (b .args .lower .now) (b .pre .0 .lowerAllowed)), omega (arith, allowed-long (netBy (b .args .counts) (b .args .job .now)) (b .args .upper .now) (b .pre .0 .upperAllowed))), omega (arith, b .pre .0 .checked .fewStages, b .pre .0 .checked .fewSegments)))
+    let b = c .before .before .before .before .before .before .before .before .before .before .before .before .before in
+    let k = b .pre .1 .1 .0 in
+    (k .checked, (b .pre .0, (b .pre .1 .0, ((omega (arith, allowed-by (drivingBy (b .args .counts) (b .args .job .now)) (b .args .lower .now) .0 (k .lowerAllowed) .long), omega (arith, allowed-by (drivingBy (b .args .counts) (b .args .job .now)) (b .args .upper .now) .0 (k .upperAllowed) .long)), omega (arith, k .checked .fewStages, k .checked .fewSegments, k .checked .fewRepeaters)))))
 
 skip-requires : tie.Need-skip-requires
 skip-requires c κs =
-    let b = c .before .before .before .before .before .before .before .before .before .before .before .before .before .before in
-    (b .pre .0 .checked, ((omega (arith, allowed-long (netBy (b .args .counts) (b .args .job .now)) (b .args .lower .now) (b .pre .0 .lowerAllowed)), omega (arith, allowed-long (netBy (b .args .counts) (b .args .job .now)) (b .args .upper .now) (b .pre .0 .upperAllowed))), omega (arith, b .pre .0 .checked .fewStages, b .pre .0 .checked .fewSegments)))
+    let b = c .before .before .before .before .before .before .before .before .before .before .before .before .before .before .before in
+    let k = b .pre .1 .1 .0 in
+    (k .checked, ((omega (arith, allowed-by (drivingBy (b .args .counts) (b .args .job .now)) (b .args .lower .now) .0 (k .lowerAllowed) .long), omega (arith, allowed-by (drivingBy (b .args .counts) (b .args .job .now)) (b .args .upper .now) .0 (k .upperAllowed) .long)), omega (arith, k .checked .fewStages, k .checked .fewSegments, k .checked .fewRepeaters)))
 
 start-requires : tie.Need-start-requires
 start-requires c κs =
-    let b = c .before .before .before .before .before .before .before .before .before .before .before .before .before .before .before .before .before .before .before .before .before .before in (
+    let b = c .before .before .before .before .before .before .before .before .before .before .before .before .before .before .before .before .before .before .before .before .before .before .before in
+    let k = b .pre .1 .1 .0 in (
       record {
-        checked = b .pre .0 .checked;
-        weighed = b .pre .0 .weighed;
+        checked = k .checked;
+        ordered = b .pre .0;
+        weighed = k .weighed;
         known = c .before .before .before .before .before .before .before .before .before .before .before .go-upstream .ensures;
-        drives = c .before .before .before .before .before .before .before .before .before .before .before .before .before .before .drive .ensures;
+        drives = c .before .before .before .before .before .before .before .before .before .before .before .before .before .before .before .drive .ensures;
         lifted = c .before .before .before .before .before .before .before .before .before .lift .ensures;
         skipped = c .before .before .before .before .before .before .before .skip .ensures;
-        lowerAllowed = b .pre .0 .lowerAllowed;
-        upperAllowed = b .pre .0 .upperAllowed;
-        inOrder = b .pre .0 .inOrder;
+        lowerAllowed = k .lowerAllowed;
+        upperAllowed = k .upperAllowed;
+        inOrder = k .inOrder;
       },
-      (b .pre .1 .0, b .pre .1 .1),
+      (b .pre .1 .1 .1 .0, b .pre .1 .1 .1 .1),
     )
 
 same-length : tie.Need-same-length
@@ -71,6 +73,7 @@ between-spec =
     (tie.spec
     drive-requires
     add-places
+    add-places-2
     go-upstream-requires
     lift-requires
     skip-requires

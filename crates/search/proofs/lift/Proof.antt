@@ -1,77 +1,114 @@
--- `search::lift` meets its contract: the loop has the places passed.
-use Rattle.place.proofs.Upstream.{before-start, before-step}
-use Rattle.search.proofs.Tables.{arrives-reads}
-use Rattle.search.specs.Searching.{UpsTo}
-use Rattle.place.specs.Held.{before}
-use Rattle.net.proofs.Questions.{ordered}
-use Rattle.net.specs.Net.{netBy}
-use borrow.Author.Needs.{needs}
-use native.Mathlib.Omega.{arith}
-use Prim.Native.Nat.{_+_, _-_, _≤_}
+-- `search::lift` meets its contract: the loop has the positions passed.
 use mathlib.Core.Path.{_≡_, ap, _∙_}
+use Prim.Native.Nat.{_-_, _≤_}
+use native.Mathlib.Omega.{arith}
+use Rattle.net.specs.Job.{placesBy}
+use Rattle.net.specs.Driving.{before}
+use Rattle.net.specs.Order.{drivingBy}
+use Rattle.net.proofs.InOrder.{placed}
+use Rattle.place.proofs.Upstream.{before-start, before-step}
+use Rattle.search.specs.Searching.{UpsTo}
+use Rattle.search.proofs.Tables.{arrives-reads}
+use borrow.Author.Needs.{needs}
 use Rattle.search.proofs.lift.Statement.{statement}
 use Rattle.search.proofs.lift.Tie as tie
-use Rattle.search.proofs.lift.Reads as reads
-use Rattle.search.proofs.lift.Lts as lts
-use Rattle.place.proofs.hangs_at.Reads as hangs-at-reads
-use Rattle.search.proofs.arrival.Reads as arrival-reads
+-- `search::lift` meets its contract: the loop has the positions passed.
+use mathlib.Core.Path.{_≡_, ap, _∙_}
+use Prim.Native.Nat.{_-_, _≤_}
+use native.Mathlib.Omega.{arith}
+use Rattle.net.specs.Job.{placesBy}
+use Rattle.net.specs.Driving.{before}
+use Rattle.net.specs.Order.{drivingBy}
+use Rattle.net.proofs.InOrder.{placed}
+use Rattle.place.proofs.Upstream.{before-start, before-step}
+use Rattle.search.specs.Searching.{UpsTo}
+use Rattle.search.proofs.Tables.{arrives-reads}
+use borrow.Author.Needs.{needs}
+use Rattle.search.proofs.lift.Statement.{statement}
+use Rattle.search.proofs.lift.Tie as tie
 
 abbrev Inv-loop : tie.InvT-loop
-Inv-loop job counts lower upper ups₀ places p₀ ups p = UpsTo (netBy counts job) lower upper p ups × (p ≤ places)
+Inv-loop job counts order hangs lower upper ups₀ places t₀ ups t =
+    UpsTo (drivingBy counts job) lower upper t ups × (t ≤ placesBy counts)
 
 abbrev μ-loop : tie.MeasureT-loop
-μ-loop job counts lower upper ups₀ places p₀ ups p = places - p
+μ-loop job counts order hangs lower upper ups₀ places t₀ ups t = places - t
 
 add-places : tie.Need-add-places Inv-loop μ-loop
-add-places c = search needs
+add-places c =
+    let k = c .before .before .before .before .pre .0 in omega (arith, k .fewStages, k .fewSegments)
+
+add-places-2 : tie.Need-add-places-2 Inv-loop μ-loop
+add-places-2 c =
+    let k = c .before .before .before .before .before .pre .0 in omega (arith, k .fewStages, k .fewSegments, k .fewRepeaters)
 
 loop-holds : tie.Need-loop-holds Inv-loop μ-loop
 loop-holds c =
-    let b = c .before .before .before .before in
-    (before-start _ _ (b .args .ups .now) (b .pre .1 .1), omega arith)
+    let b = c .before .before .before .before .before in (before-start _ _ (b .args .ups .now) (omega arith), omega arith)
 
-hangs-at-requires : tie.Need-hangs-at-requires Inv-loop μ-loop
-hangs-at-requires c κs =
-    let b = c .before .before .before .before .before .before in
-    (b .pre .0, omega (arith, c .loop-test .taken))
+mul-node : tie.Need-mul-node Inv-loop μ-loop
+mul-node c =
+    let b = c .before .before .before .before .before .before .before in
+    let k = b .pre .0 in
+    let l = c .before .loop in
+    omega (arith, l .inv .1, k .fewStages, k .fewSegments, k .fewRepeaters)
+
+element-copy-out-node : tie.Need-element-copy-out-node Inv-loop μ-loop
+element-copy-out-node c =
+    let b = c .before .before .before .before .before .before .before in
+    let k = b .pre .0 in
+    let l = c .before .loop in
+    omega (arith, l .inv .1, k .fewStages, k .fewSegments, k .fewRepeaters)
 
 arrival-requires : tie.Need-arrival-requires Inv-loop μ-loop
 arrival-requires c κs =
-    let b = c .before .before .before .before .before .before .before .before in
-    (b .pre .0, (b .pre .1 .0, omega (arith, c .before .hangs-at .ensures .1, c .before .before .loop-test .taken)))
+    let b = c .before .before .before .before .before .before .before .before .before in
+    let k = b .pre .0 in
+    let l = c .before .before .before .loop in
+    let g = b .pre .1 .1 .0 .held (l .t) (omega arith) in
+    let f = placed k .falls (l .t) (omega arith) in
+    (k, (b .pre .1 .0, (b .pre .1 .1 .1 .0, omega arith)))
 
 mul-ups : tie.Need-mul-ups Inv-loop μ-loop
 mul-ups c =
-    let b = c .before .before .before .before .before .before .before .before .before in
+    let b = c .before .before .before .before .before .before .before .before .before .before in
+    let k = b .pre .0 in
     let l = c .before .before .before .before .loop in
-    omega (arith, l .inv .1, b .pre .0 .fewStages, b .pre .0 .fewSegments)
+    omega (arith, l .inv .1, k .fewStages, k .fewSegments, k .fewRepeaters)
 
 element-write-ups : tie.Need-element-write-ups Inv-loop μ-loop
 element-write-ups c =
-    let b = c .before .before .before .before .before .before .before .before .before in
+    let b = c .before .before .before .before .before .before .before .before .before .before in
+    let k = b .pre .0 in
     let l = c .before .before .before .before .loop in
-    omega (arith, c .before .before .before .loop-test .taken, b .pre .0 .fewStages, b .pre .0 .fewSegments)
+    omega (arith, l .inv .1, k .fewStages, k .fewSegments, k .fewRepeaters)
 
-add-p : tie.Need-add-p Inv-loop μ-loop
-add-p c =
-    let b = c .before .before .before .before .before .before .before .before .before in
+add-t : tie.Need-add-t Inv-loop μ-loop
+add-t c =
+    let b = c .before .before .before .before .before .before .before .before .before .before in
+    let k = b .pre .0 in
     let l = c .before .before .before .before .loop in
-    omega (arith, l .inv .1, b .pre .0 .fewStages, b .pre .0 .fewSegments)
+    omega (arith, l .inv .1, k .fewStages, k .fewSegments, k .fewRepeaters)
 
 loop-less : tie.Need-loop-less Inv-loop μ-loop
-loop-less c = omega (arith, c .before .before .before .loop-test .taken)
+loop-less c =
+    search needs
 
 loop-again : tie.Need-loop-again Inv-loop μ-loop
 loop-again c =
-    let b = c .before .before .before .before .before .before .before .before .before in
-    let l = c .before .before .before .before .loop in
-    (before-step (netBy (b .args .counts) (b .args .job .now)) (ordered (b .pre .0)) _ (arrives-reads (netBy (b .args .counts) (b .args .job .now)) (b .args .lower .now) (b .args .upper .now)) (l .ups) (l .p) _ (omega (arith, c .before .before .before .loop-test .taken)) (l .inv .0) (c .arrival .ensures ∙ ap (before _) (c .before .before .hangs-at .ensures .0)), omega (arith, c .before .before .before .loop-test .taken))
+    let b = c .before .before .before .before .before .before .before .before .before .before in
+    let k = b .pre .0 in
+    let l = c .before .before .before .before .loop in (
+      before-step (drivingBy (b .args .counts) (b .args .job .now)) (placed k) _ (arrives-reads (drivingBy (b .args .counts) (b .args .job .now)) (b .args .lower .now) (b .args .upper .now)) (l .ups) (l .t) _ (omega arith) (l .inv .0)
+          (c .arrival .ensures ∙ ap (before _) (b .pre .1 .1 .0 .held (l .t) (omega arith))),
+      omega arith,
+    )
 
 returns : tie.Need-returns Inv-loop μ-loop
 returns c =
-    let b = c .before .before .before .before .before .before in
     let l = c .before .loop in
-    let e : l .p ≡ b .args .counts .stages + b .args .counts .segments = omega (arith, l .inv .1, c .loop-test .left) in
+    let b = c .before .before .before .before .before .before .before in
+    let e : l .t ≡ placesBy (b .args .counts) = omega arith in
     rw e at (l .inv .0)
 
 pub lift-spec : {M : Type 1} → statement M
@@ -81,12 +118,14 @@ lift-spec =
     Inv-loop
     μ-loop
     add-places
+    add-places-2
     loop-holds
-    hangs-at-requires
+    mul-node
+    element-copy-out-node
     arrival-requires
     mul-ups
     element-write-ups
-    add-p
+    add-t
     loop-less
     loop-again
     returns)

@@ -1,7 +1,7 @@
 -- `search::pass_over` meets its contract: the loop has the indices passed.
 use native.Mathlib.Omega.{arith}
 use Prim.Native.Nat.{suc, _-_}
-use Rattle.net.specs.Net.{netBy}
+use Rattle.net.specs.Order.{placedBy}
 use Rattle.search.specs.Searching.{PassedTo}
 use Rattle.search.proofs.Passing.{passing-start, passing-step}
 use Rattle.search.proofs.pass_over.Statement.{statement}
@@ -13,7 +13,7 @@ use Rattle.quantity.proofs.add_delay.Reads as add-delay-reads
 
 abbrev Inv-loop : tie.InvT-loop
 Inv-loop job counts weight before p rows length load added least low top k₀ k =
-    PassedTo (netBy counts job) weight (before .0) p (load .0) (added .0) (least .0) low top k
+    PassedTo (placedBy counts job) weight (before .0) p (load .0) (added .0) (least .0) low top k
 
 abbrev μ-loop : tie.MeasureT-loop
 μ-loop job counts weight before p rows length load added least low top k₀ k = suc top - k

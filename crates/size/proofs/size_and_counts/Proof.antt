@@ -13,12 +13,6 @@ slice-aggregate-check-2 c = search needs
 check-requires : tie.Need-check-requires
 check-requires c κs = search needs
 
-slice-aggregate-answer-checked : tie.Need-slice-aggregate-answer-checked
-slice-aggregate-answer-checked c = search needs
-
-slice-aggregate-answer-checked-2 : tie.Need-slice-aggregate-answer-checked-2
-slice-aggregate-answer-checked-2 c = search needs
-
 answer-checked-requires : tie.Need-answer-checked-requires
 answer-checked-requires c κs = search needs
 
@@ -28,7 +22,7 @@ same-length c = search needs
 returns : tie.Need-returns
 returns c =
     let a = c .before .before .answer-checked .ensures in
-    let k = c .before .before .before .before .before .before .before .before .before .check .ensures in
+    let k = c .before .before .before .before .before .before .before .check .ensures in
     (a, λ e. k .passed (k .number ∙ e) .counted)
 
 pub size-and-counts-spec : {M : Type 1} → statement M
@@ -38,8 +32,6 @@ size-and-counts-spec =
     slice-aggregate-check
     slice-aggregate-check-2
     check-requires
-    slice-aggregate-answer-checked
-    slice-aggregate-answer-checked-2
     answer-checked-requires
     same-length
     returns)
