@@ -3,7 +3,7 @@ use mathlib.Core.Path.{_≡_, sym, _∙_}
 use mathlib.Core.Logic.{_⊎_, inl, inr}
 use mathlib.Core.Bool.{true, false, true≢false}
 use mathlib.Core.List.{List}
-use Prim.Native.Nat.{ℕ, suc, _+_, _-_, _≤_, _<_}
+use Prim.Native.Nat.{ℕ, suc, _+_, _%_, _^_, _≤_, _<_}
 use native.Mathlib.Decide.{decLe}
 use native.Mathlib.Omega.{arith}
 use borrow.Author.Tests.{le-leb, lt-leb}
@@ -23,13 +23,15 @@ module _ (c : Counts) (b : List ℕ) where
       (λ i h. let k = is-segment (netBy c b) i h in (rw (k .0, k .1, k .2), rw (k .0, k .1, k .2)))
       (λ r h. let k = is-repeater (netBy c b) r in (rw (k .0, k .1, k .2), rw (k .0, k .1, k .2)))
 
--- A place behind the stages is a driver where it is behind the segments too.
-pub driver-test : (c : Counts) (p : ℕ) → c .stages ≤ p → leb (c .segments) (p - c .stages) ≡ driverAt c p
-driver-test c p l = go (decLe (c .segments) (p - c .stages))
+-- A place is a driver where its number less the count of stages, wrapped round, is not below the count of segments: a stage's wraps to one above all.
+pub driver-test : (c : Counts) (p r : ℕ) → c .stages ≤ 4 → c .segments ≤ 64 → p < 2 ^ 64 → r < 2 ^ 64 → (r + c .stages) % 2 ^ 64 ≡ p
+    → leb (c .segments) r ≡ driverAt c p
+driver-test c p r s n hp hr e = go (decLe (suc p) (c .stages)) (decLe (c .segments) r)
   where
-    go : Dec (c .segments ≤ p - c .stages) → leb (c .segments) (p - c .stages) ≡ driverAt c p
-    go (yes h) = rw (le-leb (c .segments) (p - c .stages) h) (sym (of-repeater _ _ (λ s. true) (λ i. false) (λ r. true) p (omega arith)))
-    go (no h) = rw (lt-leb (c .segments) (p - c .stages) (omega arith)) (sym (of-segment _ _ (λ s. true) (λ i. false) (λ r. true) p l (omega arith)))
+    go : Dec (suc p ≤ c .stages) → Dec (c .segments ≤ r) → leb (c .segments) r ≡ driverAt c p
+    go (yes a) b = rw (le-leb (c .segments) r (omega (arith, e))) (sym (of-stage _ _ (λ s. true) (λ i. false) (λ r. true) p a))
+    go (no a) (yes b) = rw (le-leb (c .segments) r b) (sym (of-repeater _ _ (λ s. true) (λ i. false) (λ r. true) p (omega (arith, e))))
+    go (no a) (no b) = rw (lt-leb (c .segments) r (omega arith)) (sym (of-segment _ _ (λ s. true) (λ i. false) (λ r. true) p (omega arith) (omega (arith, e))))
 
 -- A wire is a segment, a driver a stage or a repeater.
 module _ (c : Counts) (p : ℕ) where

@@ -237,12 +237,11 @@ pub fn site(job: &[u8], counts: Counts, r: usize) -> usize
     index(job[16 * (counts.widths + counts.sizes + (counts.stages + counts.segments + r)) + 2])
 }
 
-// Is place p a driver, and not a wire?
+// Is place p a driver, and not a wire? A stage's number less the count of stages wraps round to one above all, so one comparison tells a stage and a
+// repeater from a segment.
 pub fn is_driver(counts: Counts, p: usize) -> bool
+    requires { ⌜ (counts .stages ≤ 4) × (counts .segments ≤ 64) ⌝ }
     ensures { λ r. ⌜ r ≡ driverAt counts p ⌝ }
 {
-    if p < counts.stages {
-        return true;
-    }
-    counts.segments <= p - counts.stages
+    counts.segments <= std::num::wrapping_sub_usize(p, counts.stages)
 }

@@ -23,7 +23,7 @@ fn sink_weight(job: &[u8], counts: Counts, p: usize) -> u64
 
 // The weight of place p, where that of the sinks that it drives is `driven`.
 fn own_weight(counts: Counts, p: usize, driven: u64) -> u64
-    requires { ⌜ driven ≤ 16575 ⌝ }
+    requires { ⌜ (counts .stages ≤ 4) × (counts .segments ≤ 64) × (driven ≤ 16575) ⌝ }
     ensures { λ r. ⌜ r ≡ doubled counts p driven ⌝ }
 {
     if job::is_driver(counts, p) {

@@ -1,62 +1,54 @@
--- `allowed::in_ranges` meets its contract: the loop tests one place after another.
-use Prim.Native.Nat.{_-_}
+-- `allowed::in_ranges` meets its contract: run after run of the places of one kind.
 use native.Mathlib.Omega.{arith}
-use borrow.Author.Needs.{needs}
-use Rattle.lattice.proofs.Every.{Going, begins, goes-on, stops, ends}
 use Rattle.net.specs.Net.{netBy}
-use Rattle.allowed.specs.Number.{indexInRange}
+use Rattle.allowed.proofs.Runs.{stages-at, segments-at, repeaters-at, none-yet, so-far, fails-whole}
+use borrow.Author.Needs.{needs}
 use Rattle.allowed.proofs.in_ranges.Statement.{statement}
 use Rattle.allowed.proofs.in_ranges.Tie as tie
 
-abbrev Inv-loop : tie.InvT-loop
-Inv-loop job counts sizing places p₀ p = Going places (indexInRange (netBy counts job) sizing) p
+add-end : tie.Need-add-end
+add-end c = search needs
 
-abbrev μ-loop : tie.MeasureT-loop
-μ-loop job counts sizing places p₀ p = places - p
+run-in-ranges-requires : tie.Need-run-in-ranges-requires
+run-in-ranges-requires c κs =
+    let b = c .before .before .before in
+    (b .pre .0, ((omega arith, omega arith, omega (arith, b .pre .1)), ((stages-at (b .args .counts), omega arith), none-yet (netBy (b .args .counts) (b .args .job .now)) (b .args .sizing .now))))
 
-add-places : tie.Need-add-places Inv-loop μ-loop
-add-places c = search needs
-
-add-places-2 : tie.Need-add-places-2 Inv-loop μ-loop
-add-places-2 c = search needs
-
-loop-holds : tie.Need-loop-holds Inv-loop μ-loop
-loop-holds c = begins _ _
-
-index-in-range-requires : tie.Need-index-in-range-requires Inv-loop μ-loop
-index-in-range-requires c κs = search needs
-
-returns : tie.Need-returns Inv-loop μ-loop
+returns : tie.Need-returns
 returns c =
-    let b = c .before .before .before in
-    stops (b .loop .inv) (omega arith) (c .before .index-in-range .ensures) (c .if1 .taken)
+    let a = c .before .before .before .before .before .args in
+    fails-whole (netBy (a .counts) (a .job .now)) (a .sizing .now) (omega arith) (c .before .run-in-ranges .ensures) (c .if1 .taken)
 
-add-p : tie.Need-add-p Inv-loop μ-loop
-add-p c = search needs
+run-in-ranges-requires-2 : tie.Need-run-in-ranges-requires-2
+run-in-ranges-requires-2 c κs =
+    let b = c .before .before .before .before .before in
+    (b .pre .0, ((omega arith, omega arith, omega (arith, b .pre .1)), ((segments-at (b .args .counts), omega arith), so-far (c .before .run-in-ranges .ensures) (c .if1 .left))))
 
-loop-less : tie.Need-loop-less Inv-loop μ-loop
-loop-less c = search needs
+returns-2 : tie.Need-returns-2
+returns-2 c =
+    let a = c .before .before .before .before .before .before .before .args in
+    fails-whole (netBy (a .counts) (a .job .now)) (a .sizing .now) (omega arith) (c .before .run-in-ranges2 .ensures) (c .if2 .taken)
 
-loop-again : tie.Need-loop-again Inv-loop μ-loop
-loop-again c =
-    let b = c .before .before .before in
-    goes-on (b .loop .inv) (omega arith) (c .before .index-in-range .ensures) (c .if1 .left)
+add-run-in-ranges : tie.Need-add-run-in-ranges
+add-run-in-ranges c = search needs
 
-returns-2 : tie.Need-returns-2 Inv-loop μ-loop
-returns-2 c = ends (c .before .loop .inv) (omega arith)
+run-in-ranges-requires-3 : tie.Need-run-in-ranges-requires-3
+run-in-ranges-requires-3 c κs =
+    let b = c .before .before .before .before .before .before .before .before in
+    (b .pre .0, ((omega arith, omega arith, omega (arith, b .pre .1)), ((repeaters-at (b .args .counts), omega arith), so-far (c .before .before .run-in-ranges2 .ensures) (c .before .if2 .left))))
+
+returns-3 : tie.Need-returns-3
+returns-3 c = search needs
 
 pub in-ranges-spec : {M : Type 1} → statement M
 in-ranges-spec =
     tie.close
     (tie.spec
-    Inv-loop
-    μ-loop
-    add-places
-    add-places-2
-    loop-holds
-    index-in-range-requires
+    add-end
+    run-in-ranges-requires
     returns
-    add-p
-    loop-less
-    loop-again
-    returns-2)
+    run-in-ranges-requires-2
+    returns-2
+    add-run-in-ranges
+    run-in-ranges-requires-3
+    returns-3)

@@ -1,17 +1,17 @@
--- `job::is_driver` meets its contract: each way through is the definition's.
-use mathlib.Core.Path.{sym}
-use mathlib.Core.Bool.{true, false}
+-- `job::is_driver` meets its contract: what wraps round is above all segments.
 use native.Mathlib.Omega.{arith}
-use Rattle.net.proofs.Places.{of-stage}
 use Rattle.job.proofs.Ranges.{driver-test}
+use borrow.Author.Needs.{needs}
 use Rattle.job.proofs.is_driver.Statement.{statement}
 use Rattle.job.proofs.is_driver.Tie as tie
 
-returns : tie.Need-returns
-returns c = let b = c .before .before .args in sym (of-stage _ _ (λ s. true) (λ i. false) (λ r. true) (b .p) (omega arith))
+wrapping-sub-usize-requires : tie.Need-wrapping-sub-usize-requires
+wrapping-sub-usize-requires c κs = search needs
 
-returns-2 : tie.Need-returns-2
-returns-2 c = let b = c .before .before .before .before .args in driver-test (b .counts) (b .p) (omega arith)
+returns : tie.Need-returns
+returns c =
+    let b = c .before .before in
+    driver-test (b .args .counts) (b .args .p) _ (omega arith) (omega arith) (omega arith) (omega arith) (c .before .wrapping-sub-usize .ensures)
 
 pub is-driver-spec : {M : Type 1} → statement M
-is-driver-spec = tie.close (tie.spec returns returns-2)
+is-driver-spec = tie.close (tie.spec wrapping-sub-usize-requires returns)

@@ -47,7 +47,7 @@ slope-requires c κs =
     )
 
 is-driver-requires : tie.Need-is-driver-requires
-is-driver-requires c κs = search needs
+is-driver-requires c κs = let k = c .before .before .before .before .before .before .before .before .before .before .pre .0 in (k .fewStages, k .fewSegments)
 
 returns-2 : tie.Need-returns-2
 returns-2 c =

@@ -9,7 +9,7 @@ use Rattle.place.proofs.sink_at.Statement.{statement}
 use Rattle.place.proofs.sink_at.Tie as tie
 
 is-driver-requires : tie.Need-is-driver-requires
-is-driver-requires c κs = search needs
+is-driver-requires c κs = let k = c .before .pre .0 in (k .fewStages, k .fewSegments)
 
 returns : tie.Need-returns
 returns c = let b = c .before .before .before .args in (sym (driver-sink (b .counts) (b .job .now) (b .p) (sym (c .before .is-driver .ensures) ∙ c .if1 .taken)), omega arith)

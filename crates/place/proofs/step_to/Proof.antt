@@ -9,7 +9,7 @@ use Rattle.place.proofs.step_to.Statement.{statement}
 use Rattle.place.proofs.step_to.Tie as tie
 
 is-driver-requires : tie.Need-is-driver-requires
-is-driver-requires c κs = search needs
+is-driver-requires c κs = let k = c .before .pre .0 in (k .fewStages, k .fewSegments)
 
 driver-step-requires : tie.Need-driver-step-requires
 driver-step-requires c κs =

@@ -9,7 +9,7 @@ use Rattle.positions.proofs.hangs_at.Statement.{statement}
 use Rattle.positions.proofs.hangs_at.Tie as tie
 
 is-driver-requires : tie.Need-is-driver-requires
-is-driver-requires c κs = search needs
+is-driver-requires c κs = let k = c .before .pre .0 in (k .fewStages, k .fewSegments)
 
 mul-result : tie.Need-mul-result
 mul-result c = search needs

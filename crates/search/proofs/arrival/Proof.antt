@@ -43,7 +43,7 @@ element-copy-out-is-driver : tie.Need-element-copy-out-is-driver
 element-copy-out-is-driver c = search needs
 
 is-driver-requires : tie.Need-is-driver-requires
-is-driver-requires c κs = search needs
+is-driver-requires c κs = let k = c .before .before .before .before .before .before .before .before .pre .0 in (k .fewStages, k .fewSegments)
 
 returns-3 : tie.Need-returns-3
 returns-3 c =

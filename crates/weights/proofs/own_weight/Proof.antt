@@ -5,7 +5,7 @@ use Rattle.weights.proofs.own_weight.Statement.{statement}
 use Rattle.weights.proofs.own_weight.Tie as tie
 
 is-driver-requires : tie.Need-is-driver-requires
-is-driver-requires c κs = search needs
+is-driver-requires c κs = let b = c .pre in (b .0, b .1)
 
 mul-result : tie.Need-mul-result
 mul-result c = search needs

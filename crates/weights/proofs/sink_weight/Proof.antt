@@ -10,7 +10,7 @@ use Rattle.weights.proofs.sink_weight.Statement.{statement}
 use Rattle.weights.proofs.sink_weight.Tie as tie
 
 is-driver-requires : tie.Need-is-driver-requires
-is-driver-requires c κs = search needs
+is-driver-requires c κs = let k = c .before .pre .0 in (k .fewStages, k .fewSegments)
 
 returns : tie.Need-returns
 returns c = let b = c .before .before .before .args in (sym (by-size (b .counts) (b .job .now) (b .p) (sym (c .before .is-driver .ensures) ∙ c .if1 .taken) 0 (netBy (b .counts) (b .job .now) .weight)), omega arith)

@@ -112,7 +112,7 @@ own-weight-requires c κs =
     let i = rw e at (l .inv .0) in
     let z : t + 1 ≡ suc t = omega arith in
     let w = c .sink-weight .ensures .0 ∙ ap (sinkWeight (b .args .counts) (b .args .job .now)) (b .pre .1 .0 .held t h) in
-    rw z (driven-few k t h (l .weights) (l .gathered) i _ w)
+    (k .fewStages, k .fewSegments, rw z (driven-few k t h (l .weights) (l .gathered) i _ w))
 
 mul-weights : tie.Need-mul-weights Inv-loop μ-loop
 mul-weights c =
