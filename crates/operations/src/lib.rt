@@ -3,7 +3,6 @@ use elmore::DelayAndLoad;
 use net::Counts;
 use quantity::Capacitance;
 use quantity::Delay;
-use quantity::Resistance;
 ghost use mathlib.Core.Path.{_≡_};
 ghost use mathlib.Core.Bool.{true, false};
 ghost use Prim.Native.Nat.{_<_};
@@ -81,10 +80,7 @@ fn refine_in_order(
     weights::weigh(job, counts, order, hangs, &mut weights);
     // loads, by position
     let mut driven = [0u64; 76];
-    place::drive(job, counts, order, hangs, held, held, &mut driven);
-    // weighted resistances, by position
-    let mut upstream = [0u64; 76];
-    place::go_upstream(
+    let lent = place::drive_and_add(
         job,
         counts,
         order,
@@ -92,13 +88,11 @@ fn refine_in_order(
         &weights,
         held,
         held,
-        &mut upstream,
-        t + 1,
+        &mut driven,
     );
-    let lent = place::fixed_delay(job, counts, order, &weights, &driven, held, held);
+    let before = place::upstream_on_path(job, counts, order, hangs, &weights, held, t);
     let p = order[t];
     let weight = weights[t];
-    let before = Resistance(upstream[t]);
     let load = Capacitance(driven[t]);
     let ends = refine::settle(job, counts, weight, before, p, load);
     let own = place::step_at(job, counts, weight, before, p, held[t], load).delay;

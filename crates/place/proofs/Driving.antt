@@ -34,12 +34,12 @@ module _ (net : Driving) (o : Placed net) (l : InLimits net) (lower upper : List
       (net .places - p) p (omega arith) (omega arith) q h m
 
   -- what a place drives is small
-  pub driven-most : (driven : List ℕ) → DrivenFrom net lower upper 0 driven → (q : ℕ) → q < net .places → at driven q ≤ 13700000
-  driven-most driven i q h =
+  pub driven-most : (driven : List ℕ) (p : ℕ) → DrivenFrom net lower upper p driven → (q : ℕ) → p ≤ q → q < net .places → at driven q ≤ 13700000
+  driven-most driven p i q n h =
       omega (
         arith,
-        i .held q (omega arith) h,
-        behind-le net (o .falls) (heldLoad net lower upper driven) (shownLoad net lower) q (λ r m k. held-less driven 0 i r (omega arith) k),
+        i .held q n h,
+        behind-le net (o .falls) (heldLoad net lower upper driven) (shownLoad net lower) q (λ r m k. held-less driven p i r (omega arith) k),
         driven-behind net (o .falls) lower q h,
         l .drives lower low q h,
       )
@@ -82,10 +82,10 @@ module _ (net : Driving) (o : Placed net) (l : InLimits net) (lower upper : List
       loads-after : (q : ℕ) → p < q → q < net .places → heldLoad net lower upper driven q ≡ heldLoad net lower upper (set driven p v) q
       loads-after q h m = ap (λ (w : ℕ). cond (free lower upper q) 0 (loadAt net q (at lower q) w)) (sym (getD-set-other driven p q v 0 (λ k. omega arith)))
 
-      load-here : at (set driven p v) p ≡ v
+      pub load-here : at (set driven p v) p ≡ v
       load-here = getD-set-same driven p v 0 (omega (arith, i .drives .long))
 
-      drives-more : DrivenFrom net lower upper p (set driven p v)
+      pub drives-more : DrivenFrom net lower upper p (set driven p v)
       drives-more =
           record {
             long = rw (length-set driven p v) (i .drives .long);

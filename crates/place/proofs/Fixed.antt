@@ -16,15 +16,15 @@ use Rattle.place.proofs.Steps.{weighted-small}
 use Rattle.place.proofs.Driving.{driven-most, driven-all}
 
 -- What the held places add, from the last place to the first.
-module _ (net : Driving) (o : Placed net) (l : InLimits net) (lower upper driven : List ℕ) (low : Allowed (allowedBy net) lower) (i : DrivenFrom net lower upper 0 driven) where
+module _ (net : Driving) (o : Placed net) (l : InLimits net) (lower upper driven : List ℕ) where
   abbrev term : ℕ → ℕ
   term a = cond (free lower upper a) 0 (net .weight a * delayAt net a (at lower a) (at driven a))
 
-  pub fixed-fits : (p : ℕ) → fixedFrom net lower upper driven p ≤ 6821760000000000000
-  fixed-fits p =
+  pub fixed-fits : (p : ℕ) → Allowed (allowedBy net) lower → DrivenFrom net lower upper p driven → fixedFrom net lower upper driven p ≤ 6821760000000000000
+  fixed-fits p low i =
       omega (
         arith,
-        after-small (net .places) term p 89760000000000000 (λ q h m. go (free lower upper q) (weighted-small _ _ (l .weights q m) (l .delays q (at lower q) (at driven q) m (allowed-by net lower .0 low .high q m) (driven-most net o l lower upper low driven i q m)))),
+        after-small (net .places) term p 89760000000000000 (λ q h m. go (free lower upper q) (weighted-small _ _ (l .weights q m) (l .delays q (at lower q) (at driven q) m (allowed-by net lower .0 low .high q m) (driven-most net o l lower upper low driven p i q h m)))),
         mul-le-mul-right 89760000000000000 (l .few),
       )
     where

@@ -5,3 +5,5 @@ pub mod Gathering
 pub mod Loads
 pub mod Driving
 pub mod Fixed
+pub mod Adding
+pub mod Path

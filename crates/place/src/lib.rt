@@ -13,7 +13,7 @@ ghost use Rattle.net.specs.Driving.{loadAt};
 ghost use Rattle.net.specs.Order.{placedBy};
 ghost use Rattle.net.specs.Checked.{Checked};
 ghost use Rattle.positions.specs.Arranged.{PlacesInOrder, NodesOf};
-ghost use Rattle.place.specs.ByCounts.{Weighed, AllowedInOrder, SinkAt, DriveInLimits, rowsAt, LengthAt, IndexAndWeight, SlopeAt, StepInLimits, Stepped, Driven, fixedDelay, onwardFrom, upstreamOf, Upstream, DriverInLimits, DriverStepped, SegmentInLimits, ChargeInLimits, Charged};
+ghost use Rattle.place.specs.ByCounts.{Weighed, AllowedInOrder, SinkAt, DriveInLimits, rowsAt, LengthAt, IndexAndWeight, SlopeAt, StepInLimits, Stepped, Driven, fixedDelay, onwardFrom, upstreamOf, Upstream, UpstreamAt, DriverInLimits, DriverStepped, SegmentInLimits, ChargeInLimits, Charged};
 
 // What a place adds at one of its indices: its part of the scaled delay with what its load costs upstream, and the load that it shows.
 pub struct PlaceStep {
@@ -204,6 +204,38 @@ pub fn go_upstream(
     }
 }
 
+// The weighted upstream resistance of position t, where every place is held: along the path to the driver before it, and no further.
+pub fn upstream_on_path(
+    job: &[u8],
+    counts: Counts,
+    order: &[usize; 76],
+    hangs: &[usize; 76],
+    weights: &[u64; 76],
+    held: &[u8],
+    t: usize,
+) -> Resistance
+    requires { ⌜ Checked counts (now job) ⌝ }
+    requires { ⌜ PlacesInOrder counts (now job) (now order) ⌝ }
+    requires { ⌜ NodesOf counts (now job) (now hangs) ⌝ }
+    requires { ⌜ Weighed counts (now job) (now weights) ⌝ }
+    requires { ⌜ AllowedInOrder counts (now job) (now held) ⌝ }
+    requires { ⌜ t < placesBy counts ⌝ }
+    ensures { λ r. ⌜ UpstreamAt counts (now (job .entry)) (now (held .entry)) t (r .0) ⌝ }
+{
+    let mut sum = Resistance(0);
+    let mut node = hangs[t];
+    while node > 0 {
+        let a = node - 1;
+        let p = order[a];
+        sum = quantity::add_resistance(sum, slope(job, counts, weights[a], p, held[a]));
+        if job::is_driver(counts, p) {
+            return sum;
+        }
+        node = hangs[a];
+    }
+    sum
+}
+
 // A step of the weighted delay `own` and the load `load`, which is charged through the resistance upstream too.
 fn charged_upstream(upstream: Resistance, own: Delay, load: Capacitance) -> PlaceStep
     requires { ⌜ ChargeInLimits (upstream .0) (own .0) (load .0) ⌝ }
@@ -372,6 +404,48 @@ pub fn fixed_delay(
             let load = Capacitance(driven[t]);
             let step = step_at(job, counts, weights[t], Resistance(0), p, lower[t], load);
             sum = quantity::add_delay(sum, step.delay);
+        }
+    }
+    sum
+}
+
+// What the places drive where free places show no load, and what the held places add to the delay, in one pass from the last position to the first.
+pub fn drive_and_add(
+    job: &[u8],
+    counts: Counts,
+    order: &[usize; 76],
+    hangs: &[usize; 76],
+    weights: &[u64; 76],
+    lower: &[u8],
+    upper: &[u8],
+    driven: &mut [u64; 76],
+) -> Delay
+    requires { ⌜ Checked counts (now job) ⌝ }
+    requires { ⌜ PlacesInOrder counts (now job) (now order) ⌝ }
+    requires { ⌜ NodesOf counts (now job) (now hangs) ⌝ }
+    requires { ⌜ Weighed counts (now job) (now weights) ⌝ }
+    requires { ⌜ AllowedInOrder counts (now job) (now lower) ⌝ }
+    requires { ⌜ placesBy counts ≤ length (now upper) ⌝ }
+    requires { ⌜ placesBy counts ≤ length (now driven) ⌝ }
+    ensures loads { λ r. ⌜ Driven counts (now (job .entry)) (now (lower .entry)) (now (upper .entry)) (now (driven .exit)) ⌝ }
+    ensures delay { λ r. ⌜ r .0 ≡ fixedDelay counts (now (job .entry)) (now (lower .entry)) (now (upper .entry)) (now (driven .exit)) ⌝ }
+{
+    // by node
+    let mut gathered = [Capacitance(0); 77];
+    let mut sum = Delay(0);
+    let mut t = counts.stages + counts.segments + counts.repeaters;
+    while t > 0 {
+        t -= 1;
+        let p = order[t];
+        let load = quantity::add_capacitance(sink_at(job, counts, p), gathered[t + 1]);
+        driven[t] = load.0;
+        if lower[t] >= upper[t] {
+            let step = step_at(job, counts, weights[t], Resistance(0), p, lower[t], load);
+            let shown = step.load;
+            let own = step.delay;
+            let node = hangs[t];
+            gathered[node] = quantity::add_capacitance(gathered[node], shown);
+            sum = quantity::add_delay(sum, own);
         }
     }
     sum

@@ -27,7 +27,7 @@ add-t-2 : tie.Need-add-t-2 Inv-loop μ-loop
 add-t-2 c = let k = c .before .before .before .before .before .pre .0 in omega (arith, k .fewStages, k .fewSegments, k .fewRepeaters)
 
 loop-holds : tie.Need-loop-holds Inv-loop μ-loop
-loop-holds c = let b = c .before .before .before .before .before in let k = b .pre .0 in (sym (fixed-none (drivingBy (b .args .counts) (b .args .job .now)) (placed k) (inLimits k) (b .args .lower .now) (b .args .upper .now) (b .args .driven .now) (b .pre .1 .1 .1 .1 .0) (b .pre .1 .1 .1 .0)), omega arith)
+loop-holds c = let b = c .before .before .before .before .before in let k = b .pre .0 in (sym (fixed-none (drivingBy (b .args .counts) (b .args .job .now)) (placed k) (inLimits k) (b .args .lower .now) (b .args .upper .now) (b .args .driven .now)), omega arith)
 
 sub-t : tie.Need-sub-t Inv-loop μ-loop
 sub-t c = search needs
@@ -126,7 +126,7 @@ step-at-requires c κs =
         rw (b .pre .1 .0 .held t h) (allowed-by (drivingBy (b .args .counts) (b .args .job .now)) (b .args .lower .now) .0 (b .pre .1 .1 .1 .1 .0) .high t h),
         rw (b .pre .1 .1 .0 .held t (omega arith) h) (inLimits k .weights t h),
         omega arith,
-        driven-most (drivingBy (b .args .counts) (b .args .job .now)) (placed k) (inLimits k) (b .args .lower .now) (b .args .upper .now) (b .pre .1 .1 .1 .1 .0) (b .args .driven .now) (b .pre .1 .1 .1 .0) t h,
+        driven-most (drivingBy (b .args .counts) (b .args .job .now)) (placed k) (inLimits k) (b .args .lower .now) (b .args .upper .now) (b .pre .1 .1 .1 .1 .0) (b .args .driven .now) 0 (b .pre .1 .1 .1 .0) t (omega arith) h,
       ),
     )
 
@@ -138,10 +138,10 @@ add-delay-requires c κs =
     let t = l .t - 1 in
     let h : t < placesBy (b .args .counts) = omega (arith, l .inv .1, c .before .before .before .before .before .before .before .before .loop-test .taken) in
     let e : suc t ≡ l .t = omega (arith, c .before .before .before .before .before .before .before .before .loop-test .taken) in
-    let f = rw e at (fixed-step (drivingBy (b .args .counts) (b .args .job .now)) (placed k) (inLimits k) (b .args .lower .now) (b .args .upper .now) (b .args .driven .now) (b .pre .1 .1 .1 .1 .0) (b .pre .1 .1 .1 .0) t h (c .before .before .before .before .before .if1 .taken)) in
+    let f = rw e at (fixed-step (drivingBy (b .args .counts) (b .args .job .now)) (placed k) (inLimits k) (b .args .lower .now) (b .args .upper .now) (b .args .driven .now) t h (c .before .before .before .before .before .if1 .taken)) in
     let d = c .step-at .ensures .delay ∙ cost-same (b .args .counts) (b .args .job .now) (at (b .args .weights .now) t) 0 t (at (b .args .driven .now) t) (at (b .args .lower .now) t) _ (b .pre .1 .0 .held t h) in
     let w = b .pre .1 .1 .0 .held t (omega arith) h in
-    omega (arith, l .inv .0, f, rw w at d, fixed-fits (drivingBy (b .args .counts) (b .args .job .now)) (placed k) (inLimits k) (b .args .lower .now) (b .args .upper .now) (b .args .driven .now) (b .pre .1 .1 .1 .1 .0) (b .pre .1 .1 .1 .0) t)
+    omega (arith, l .inv .0, f, rw w at d, fixed-fits (drivingBy (b .args .counts) (b .args .job .now)) (placed k) (inLimits k) (b .args .lower .now) (b .args .upper .now) (b .args .driven .now) t (b .pre .1 .1 .1 .1 .0) record { long = b .pre .1 .1 .1 .0 .long; held = λ q m n. b .pre .1 .1 .1 .0 .held q (omega arith) n })
 
 loop-less : tie.Need-loop-less Inv-loop μ-loop
 loop-less c = omega (arith, c .before .before .before .before .before .before .before .before .before .loop-test .taken)
@@ -154,7 +154,7 @@ loop-again c =
     let t = l .t - 1 in
     let h : t < placesBy (b .args .counts) = omega (arith, l .inv .1, c .before .before .before .before .before .before .before .before .before .loop-test .taken) in
     let e : suc t ≡ l .t = omega (arith, c .before .before .before .before .before .before .before .before .before .loop-test .taken) in
-    let f = rw e at (fixed-step (drivingBy (b .args .counts) (b .args .job .now)) (placed k) (inLimits k) (b .args .lower .now) (b .args .upper .now) (b .args .driven .now) (b .pre .1 .1 .1 .1 .0) (b .pre .1 .1 .1 .0) t h (c .before .before .before .before .before .before .if1 .taken)) in
+    let f = rw e at (fixed-step (drivingBy (b .args .counts) (b .args .job .now)) (placed k) (inLimits k) (b .args .lower .now) (b .args .upper .now) (b .args .driven .now) t h (c .before .before .before .before .before .before .if1 .taken)) in
     let d = c .before .step-at .ensures .delay ∙ cost-same (b .args .counts) (b .args .job .now) (at (b .args .weights .now) t) 0 t (at (b .args .driven .now) t) (at (b .args .lower .now) t) _ (b .pre .1 .0 .held t h) in
     let w = b .pre .1 .1 .0 .held t (omega arith) h in
     (omega (arith, c .add-delay .ensures .0, l .inv .0, f, rw w at d), omega (arith, l .inv .1))
@@ -170,7 +170,7 @@ loop-again-2 c =
     let t = l .t - 1 in
     let h : t < placesBy (b .args .counts) = omega (arith, l .inv .1, c .before .before .before .loop-test .taken) in
     let e : suc t ≡ l .t = omega (arith, c .before .before .before .loop-test .taken) in
-    (l .inv .0 ∙ sym (rw e at (fixed-skip (drivingBy (b .args .counts) (b .args .job .now)) (placed k) (inLimits k) (b .args .lower .now) (b .args .upper .now) (b .args .driven .now) (b .pre .1 .1 .1 .1 .0) (b .pre .1 .1 .1 .0) t h (omega (arith, c .if1 .left)))), omega (arith, l .inv .1))
+    (l .inv .0 ∙ sym (rw e at (fixed-skip (drivingBy (b .args .counts) (b .args .job .now)) (placed k) (inLimits k) (b .args .lower .now) (b .args .upper .now) (b .args .driven .now) t h (omega (arith, c .if1 .left)))), omega (arith, l .inv .1))
 
 returns : tie.Need-returns Inv-loop μ-loop
 returns c =
