@@ -377,38 +377,6 @@ pub fn step_at(
     step(job, counts, weight, upstream, p, rows, length, k, driven)
 }
 
-// What the held places add to the delay.
-pub fn fixed_delay(
-    job: &[u8],
-    counts: Counts,
-    order: &[usize; 76],
-    weights: &[u64; 76],
-    driven: &[u64; 76],
-    lower: &[u8],
-    upper: &[u8],
-) -> Delay
-    requires { ⌜ Checked counts (now job) ⌝ }
-    requires { ⌜ PlacesInOrder counts (now job) (now order) ⌝ }
-    requires { ⌜ Weighed counts (now job) (now weights) ⌝ }
-    requires { ⌜ Driven counts (now job) (now lower) (now upper) (now driven) ⌝ }
-    requires { ⌜ AllowedInOrder counts (now job) (now lower) ⌝ }
-    requires { ⌜ placesBy counts ≤ length (now upper) ⌝ }
-    ensures { λ r. ⌜ r .0 ≡ fixedDelay counts (now (job .entry)) (now (lower .entry)) (now (upper .entry)) (now (driven .entry)) ⌝ }
-{
-    let mut sum = Delay(0);
-    let mut t = counts.stages + counts.segments + counts.repeaters;
-    while t > 0 {
-        t -= 1;
-        if lower[t] >= upper[t] {
-            let p = order[t];
-            let load = Capacitance(driven[t]);
-            let step = step_at(job, counts, weights[t], Resistance(0), p, lower[t], load);
-            sum = quantity::add_delay(sum, step.delay);
-        }
-    }
-    sum
-}
-
 // What the places drive where free places show no load, and what the held places add to the delay, in one pass from the last position to the first.
 pub fn drive_and_add(
     job: &[u8],

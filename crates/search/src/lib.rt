@@ -11,7 +11,7 @@ ghost use Rattle.envelope.specs.Kept.{found};
 ghost use Rattle.net.specs.Job.{placesBy};
 ghost use Rattle.net.specs.Checked.{Checked, ForPlaces};
 ghost use Rattle.positions.specs.Arranged.{PlacesInOrder, NodesOf};
-ghost use Rattle.place.specs.ByCounts.{rowsAt, LengthAt, StepInLimits};
+ghost use Rattle.place.specs.ByCounts.{rowsAt, LengthAt, StepInLimits, fixedDelay};
 ghost use Rattle.search.specs.Searching.{Bounds, Prepared, LastFree, MoreFree, BothLong, Skipped, AllFit, PassedBy, PassedAt, SizedBy, arrivesAt, Lifted, SearchedFrom, takenBetween};
 
 // The node at which a load at `node` arrives, through the held wires above it.
@@ -306,7 +306,7 @@ fn search(
     best
 }
 
-// Takes every sizing between the bounds, where x is the lower bound and the tables are filled.
+// Takes every sizing between the bounds, where x is the lower bound, the tables are filled and the held places add `fixed`.
 fn start(
     job: &[u8],
     counts: Counts,
@@ -318,6 +318,7 @@ fn start(
     skips: &[usize; 77],
     lower: &[u8],
     upper: &[u8],
+    fixed: Delay,
     x: &mut [u8],
     least: Delay,
     lean: &mut [u8],
@@ -325,12 +326,11 @@ fn start(
 ) -> Delay
     requires { ⌜ Prepared counts (now job) (now order) (now weights) (now upstream) (now driven) (now ups) (now skips) (now lower) (now upper) ⌝ }
     requires { ⌜ now x ≡ now lower ⌝ }
-    requires { ⌜ ForPlaces counts (now lean) × ForPlaces counts (now wide) ⌝ }
+    requires { ⌜ ForPlaces counts (now lean) × ForPlaces counts (now wide) × (fixed .0 ≡ fixedDelay counts (now job) (now lower) (now upper) (now driven)) ⌝ }
     ensures { λ r. ⌜ found (r .0) (now (lean .exit)) (now (wide .exit))
         ≡ takenBetween counts (now (job .entry)) (now (lower .entry)) (now (upper .entry))
         (found (least .0) (now (lean .entry)) (now (wide .entry))) ⌝ }
 {
-    let fixed = place::fixed_delay(job, counts, order, weights, driven, lower, upper);
     let left = skips[counts.stages + counts.segments + counts.repeaters];
     if left == 0 {
         return envelope::keep(x, fixed, least, lean, wide);
@@ -405,7 +405,16 @@ pub fn between(
 {
     // loads, by position
     let mut driven = [0u64; 76];
-    place::drive(job, counts, order, hangs, lower, upper, &mut driven);
+    let fixed = place::drive_and_add(
+        job,
+        counts,
+        order,
+        hangs,
+        weights,
+        lower,
+        upper,
+        &mut driven,
+    );
     // weighted resistances, by position
     let mut upstream = [0u64; 76];
     let places = counts.stages + counts.segments + counts.repeaters;
@@ -437,6 +446,7 @@ pub fn between(
         &skips,
         lower,
         upper,
+        fixed,
         x,
         least,
         lean,

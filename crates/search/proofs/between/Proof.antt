@@ -6,11 +6,11 @@ use borrow.Author.Needs.{needs}
 use Rattle.search.proofs.between.Statement.{statement}
 use Rattle.search.proofs.between.Tie as tie
 
-drive-requires : tie.Need-drive-requires
-drive-requires c κs =
+drive-and-add-requires : tie.Need-drive-and-add-requires
+drive-and-add-requires c κs =
     let b = c .before .before .before .before .before .before .before in
     let k = b .pre .1 .1 .0 in
-    (k .checked, (b .pre .0, (b .pre .1 .0, (k .lowerAllowed, (omega (arith, allowed-by (drivingBy (b .args .counts) (b .args .job .now)) (b .args .upper .now) .0 (k .upperAllowed) .long), omega (arith, k .checked .fewStages, k .checked .fewSegments, k .checked .fewRepeaters))))))
+    (k .checked, (b .pre .0, (b .pre .1 .0, (k .weighed, (k .lowerAllowed, (omega (arith, allowed-by (drivingBy (b .args .counts) (b .args .job .now)) (b .args .upper .now) .0 (k .upperAllowed) .long), omega (arith, k .checked .fewStages, k .checked .fewSegments, k .checked .fewRepeaters)))))))
 
 add-places : tie.Need-add-places
 add-places c = search needs
@@ -45,14 +45,14 @@ start-requires c κs =
         ordered = b .pre .0;
         weighed = k .weighed;
         known = c .before .before .before .before .before .before .before .before .before .before .before .go-upstream .ensures;
-        drives = c .before .before .before .before .before .before .before .before .before .before .before .before .before .before .before .drive .ensures;
+        drives = c .before .before .before .before .before .before .before .before .before .before .before .before .before .before .before .drive-and-add .ensures .0;
         lifted = c .before .before .before .before .before .before .before .before .before .lift .ensures;
         skipped = c .before .before .before .before .before .before .before .skip .ensures;
         lowerAllowed = k .lowerAllowed;
         upperAllowed = k .upperAllowed;
         inOrder = k .inOrder;
       },
-      (b .pre .1 .1 .1 .0, b .pre .1 .1 .1 .1),
+      (b .pre .1 .1 .1 .0, (b .pre .1 .1 .1 .1 .0, b .pre .1 .1 .1 .1 .1, c .before .before .before .before .before .before .before .before .before .before .before .before .before .before .before .drive-and-add .ensures .1)),
     )
 
 same-length : tie.Need-same-length
@@ -71,7 +71,7 @@ pub between-spec : {M : Type 1} → statement M
 between-spec =
     tie.close
     (tie.spec
-    drive-requires
+    drive-and-add-requires
     add-places
     add-places-2
     go-upstream-requires

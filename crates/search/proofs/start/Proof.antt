@@ -13,11 +13,6 @@ use borrow.Author.Needs.{needs}
 use Rattle.search.proofs.start.Statement.{statement}
 use Rattle.search.proofs.start.Tie as tie
 
-fixed-delay-requires : tie.Need-fixed-delay-requires
-fixed-delay-requires c κs =
-    let b = c .before .before .before .before .before .before in
-    (b .pre .0 .checked, (b .pre .0 .ordered, (b .pre .0 .weighed, (b .pre .0 .drives, (b .pre .0 .lowerAllowed, omega (arith, allowed-by (drivingBy (b .args .counts) (b .args .job .now)) (b .args .upper .now) .0 (b .pre .0 .upperAllowed) .long))))))
-
 add-left : tie.Need-add-left
 add-left c = search needs
 
@@ -32,7 +27,7 @@ element-copy-out-left c = search needs
 
 keep-requires : tie.Need-keep-requires
 keep-requires c κs =
-    let b = c .before .before .before .before .before .before .before .before .before .before .before .before .before .before in
+    let b = c .before .before .before .before .before .before .before .before .before .before .before .before .before in
     let e = ap length (b .pre .1 .0) ∙ allowed-by (drivingBy (b .args .counts) (b .args .job .now)) (b .args .lower .now) .0 (b .pre .0 .lowerAllowed) .long in
     (e ∙ sym (b .pre .1 .1 .0), e ∙ sym (b .pre .1 .1 .1))
 
@@ -47,20 +42,20 @@ same-length-3 c = search needs
 
 returns : tie.Need-returns
 returns c =
-    let b = c .before .before .before .before .before .before .before .before .before .before .before .before .before .before .before .before .before .before .before in
-    start-one (b .pre .0) (c .before .before .before .before .before .before .before .before .before .before .before .before .fixed-delay .result .0) (found (b .args .least .0) (b .args .lean .now) (b .args .wide .now)) (b .pre .1 .0) (c .before .before .before .before .before .before .before .before .before .before .before .before .fixed-delay .ensures) (c .before .before .before .before .before .before .before .before .if1 .taken) (c .before .before .before .before .keep .ensures)
+    let b = c .before .before .before .before .before .before .before .before .before .before .before .before .before .before .before .before .before .before in
+    start-one (b .pre .0) (b .args .fixed .0) (found (b .args .least .0) (b .args .lean .now) (b .args .wide .now)) (b .pre .1 .0) (b .pre .1 .1 .2) (c .before .before .before .before .before .before .before .before .if1 .taken) (c .before .before .before .before .keep .ensures)
 
 sub-if2 : tie.Need-sub-if2
 sub-if2 c = search needs
 
 mul-if2 : tie.Need-mul-if2
 mul-if2 c =
-    let b = c .before .before .before .before .before .before .before .before .before .before .before in
+    let b = c .before .before .before .before .before .before .before .before .before .before in
     omega (arith, skip-le (b .args .lower .now) (b .args .upper .now) (b .args .counts .stages + b .args .counts .segments + b .args .counts .repeaters) (b .args .skips .now) (b .pre .0 .skipped) (b .args .counts .stages + b .args .counts .segments + b .args .counts .repeaters) (omega arith), b .pre .0 .checked .fewStages, b .pre .0 .checked .fewSegments, b .pre .0 .checked .fewRepeaters)
 
 element-copy-out-if2 : tie.Need-element-copy-out-if2
 element-copy-out-if2 c =
-    let b = c .before .before .before .before .before .before .before .before .before .before .before in
+    let b = c .before .before .before .before .before .before .before .before .before .before in
     omega (arith, skip-le (b .args .lower .now) (b .args .upper .now) (b .args .counts .stages + b .args .counts .segments + b .args .counts .repeaters) (b .args .skips .now) (b .pre .0 .skipped) (b .args .counts .stages + b .args .counts .segments + b .args .counts .repeaters) (omega arith), b .pre .0 .checked .fewStages, b .pre .0 .checked .fewSegments, b .pre .0 .checked .fewRepeaters)
 
 sub-take-from : tie.Need-sub-take-from
@@ -68,16 +63,16 @@ sub-take-from c = search needs
 
 shared-slice-read-take-from : tie.Need-shared-slice-read-take-from
 shared-slice-read-take-from c =
-    let b = c .before .before .before .before .before .before .before .before .before .before .before .before .before .before in
+    let b = c .before .before .before .before .before .before .before .before .before .before .before .before .before in
     omega (arith, skip-le (b .args .lower .now) (b .args .upper .now) (b .args .counts .stages + b .args .counts .segments + b .args .counts .repeaters) (b .args .skips .now) (b .pre .0 .skipped) (b .args .counts .stages + b .args .counts .segments + b .args .counts .repeaters) (omega arith), allowed-by (drivingBy (b .args .counts) (b .args .job .now)) (b .args .lower .now) .0 (b .pre .0 .lowerAllowed) .long)
 
 take-from-requires : tie.Need-take-from-requires
 take-from-requires c κs =
-    let b = c .before .before .before .before .before .before .before .before .before .before .before .before .before .before .before .before .before .before in
+    let b = c .before .before .before .before .before .before .before .before .before .before .before .before .before .before .before .before .before in
     let n = c .before .before .before .before .before .before .before .if1 .left in (
       b .pre .0,
       (
-        start-sized (b .pre .0) (c .before .before .before .before .before .before .before .before .before .before .before .fixed-delay .result .0) (b .pre .1 .0) (c .before .before .before .before .before .before .before .before .before .before .before .fixed-delay .ensures) (b .pre .1 .1 .0) (b .pre .1 .1 .1),
+        start-sized (b .pre .0) (b .args .fixed .0) (b .pre .1 .0) (b .pre .1 .1 .2) (b .pre .1 .1 .0) (b .pre .1 .1 .1),
         (
           (omega (arith, n), skip-free (b .args .lower .now) (b .args .upper .now) (b .args .counts .stages + b .args .counts .segments + b .args .counts .repeaters) (b .args .skips .now) (b .pre .0 .skipped) (b .args .counts .stages + b .args .counts .segments + b .args .counts .repeaters) (omega arith) n, c .before .before .before .before .before .if2 .taken),
           passing-start (b .pre .0 .inOrder _ (omega (arith, skip-le (b .args .lower .now) (b .args .upper .now) (b .args .counts .stages + b .args .counts .segments + b .args .counts .repeaters) (b .args .skips .now) (b .pre .0 .skipped) (b .args .counts .stages + b .args .counts .segments + b .args .counts .repeaters) (omega arith), n))),
@@ -96,16 +91,16 @@ same-length-6 c = search needs
 
 returns-2 : tie.Need-returns-2
 returns-2 c =
-    let b = c .before .before .before .before .before .before .before .before .before .before .before .before .before .before .before .before .before .before .before .before .before .before .before .before .before in
+    let b = c .before .before .before .before .before .before .before .before .before .before .before .before .before .before .before .before .before .before .before .before .before .before .before .before in
     start-found (b .pre .0) (b .pre .1 .0) (c .before .before .before .before .before .before .take-from .ensures)
 
 search-requires : tie.Need-search-requires
 search-requires c κs =
-    let b = c .before .before .before .before .before .before .before .before .before .before .before .before .before .before .before .before .before in
+    let b = c .before .before .before .before .before .before .before .before .before .before .before .before .before .before .before .before in
     let n = c .before .before .before .before .before .before .if1 .left in (
       b .pre .0,
       (
-        start-sized (b .pre .0) (c .before .before .before .before .before .before .before .before .before .before .fixed-delay .result .0) (b .pre .1 .0) (c .before .before .before .before .before .before .before .before .before .before .fixed-delay .ensures) (b .pre .1 .1 .0) (b .pre .1 .1 .1),
+        start-sized (b .pre .0) (b .args .fixed .0) (b .pre .1 .0) (b .pre .1 .1 .2) (b .pre .1 .1 .0) (b .pre .1 .1 .1),
         (omega (arith, n), skip-free (b .args .lower .now) (b .args .upper .now) (b .args .counts .stages + b .args .counts .segments + b .args .counts .repeaters) (b .args .skips .now) (b .pre .0 .skipped) (b .args .counts .stages + b .args .counts .segments + b .args .counts .repeaters) (omega arith) n, omega (arith, c .before .before .before .before .if2 .left)),
       ),
     )
@@ -121,14 +116,13 @@ same-length-9 c = search needs
 
 returns-3 : tie.Need-returns-3
 returns-3 c =
-    let b = c .before .before .before .before .before .before .before .before .before .before .before .before .before .before .before .before .before .before .before .before .before .before .before .before in
+    let b = c .before .before .before .before .before .before .before .before .before .before .before .before .before .before .before .before .before .before .before .before .before .before .before in
     start-found (b .pre .0) (b .pre .1 .0) (c .before .before .before .before .before .before .search .ensures)
 
 pub start-spec : {M : Type 1} → statement M
 start-spec =
     tie.close
     (tie.spec
-    fixed-delay-requires
     add-left
     add-left-2
     mul-left
