@@ -32,7 +32,7 @@ use Rattle.place.specs.Partial.{WeightsFrom}
 use Rattle.envelope.specs.Kept.{found}
 use Rattle.reply.specs.Records.{ofPlace, replied}
 use Rattle.reply.proofs.Places.{reply-same}
-use Rattle.search.specs.Searching.{Bounds}
+use Rattle.free.specs.Searching.{Bounds}
 use Rattle.finish.specs.Parts.{Bounded, LeastOf, bufferFrom}
 
 module _ {c : Counts} {job : List ℕ} (k : Checked c job) where

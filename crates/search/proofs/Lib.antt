@@ -1,6 +1,1 @@
-pub mod Apart
-pub mod Tables
-pub mod Turns
-pub mod Calls
 pub mod Starting
-pub mod Passing

@@ -13,9 +13,9 @@ use Rattle.net.proofs.InOrder.{placed, inLimits}
 use Rattle.place.proofs.After.{after-none}
 use Rattle.place.proofs.Gathering.{gathering-start}
 use Rattle.place.specs.Held.{fixedFrom}
-use Rattle.search.specs.Searching.{freeLoad, pricedFrom, Prepared, Sized, Searched}
-use Rattle.search.proofs.Apart.{delay-apart}
-use Rattle.search.proofs.Tables.{skip-le, priced-skip, gathers-skip, takes-skip}
+use Rattle.free.specs.Searching.{freeLoad, pricedFrom, Prepared, Sized, Searched}
+use Rattle.free.proofs.Apart.{delay-apart}
+use Rattle.free.proofs.Tables.{skip-le, priced-skip, gathers-skip, takes-skip}
 
 module _ {c : Counts} {job orders weights upstream driven ups skips lower upper : List ℕ} (r : Prepared c job orders weights upstream driven ups skips lower upper) where
   abbrev net : Driving

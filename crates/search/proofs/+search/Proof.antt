@@ -1,7 +1,7 @@
 -- `search::search` meets its contract: the loop has the sizings with the indices passed, and each call has fewer places left.
 use Rattle.net.proofs.InOrder.{allowed-by}
-use Rattle.search.proofs.Calls.{few, place-few, load-most, weight-most, resistance-most, node-low, others-small, rest-low, rest-free, small, begin, top-high, all-fit, passed-by, passed-to, high-at, shown-small, fits, ready, done, ended}
-use Rattle.search.proofs.Turns.{Turning}
+use Rattle.free.proofs.Calls.{few, place-few, load-most, weight-most, resistance-most, node-low, others-small, rest-low, rest-free, small, begin, top-high, all-fit, passed-by, passed-to, high-at, shown-small, fits, ready, done, ended}
+use Rattle.free.proofs.Turns.{Turning}
 use Rattle.envelope.specs.Kept.{found}
 use Rattle.net.specs.Order.{drivingBy}
 use Rattle.place.proofs.Steps.{place-at}
@@ -22,8 +22,8 @@ use Rattle.job.proofs.place_word.Reads as place-word-reads
 use Rattle.place.proofs.step.Reads as step-reads
 use Rattle.quantity.proofs.add_capacitance.Reads as add-capacitance-reads
 use Rattle.quantity.proofs.add_delay.Reads as add-delay-reads
-use Rattle.search.proofs.pass_over.Reads as pass-over-reads
-use Rattle.search.proofs.take_from.Reads as take-from-reads
+use Rattle.free.proofs.pass_over.Reads as pass-over-reads
+use Rattle.free.proofs.take_from.Reads as take-from-reads
 use Rattle.search.proofs.+search.{statement}
 use Rattle.search.proofs.+search.Tie.{close}
 

@@ -1,8 +1,8 @@
 -- `search::start` meets its contract: one sizing where no place is free, else the search from the last free place on.
-use Rattle.search.proofs.Passing.{passing-start}
+use Rattle.free.proofs.Passing.{passing-start}
 use Rattle.search.proofs.Starting.{start-sized, start-found, start-one}
 use Rattle.net.proofs.InOrder.{allowed-by}
-use Rattle.search.proofs.Tables.{skip-le, skip-free}
+use Rattle.free.proofs.Tables.{skip-le, skip-free}
 use Rattle.net.specs.Order.{drivingBy}
 use Rattle.envelope.specs.Kept.{found}
 use lib.ListN.{length}

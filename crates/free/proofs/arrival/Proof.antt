@@ -1,23 +1,23 @@
--- `search::arrival` meets its contract: the node is the first one, or what stands before it is free, a driver or a wire.
+-- `free::arrival` meets its contract: the node is the first one, or what stands before it is free, a driver or a wire.
 use mathlib.Core.Path.{sym, _∙_}
 use Prim.Native.Nat.{_-_}
 use native.Mathlib.Omega.{arith}
 use Rattle.net.specs.Order.{drivingBy}
 use Rattle.place.proofs.Steps.{driver-same}
-use Rattle.search.proofs.Tables.{arrives-none, arrives-free, arrives-driver, arrives-through}
+use Rattle.free.proofs.Tables.{arrives-none, arrives-free, arrives-driver, arrives-through}
 use borrow.Author.Needs.{needs}
-use Rattle.search.proofs.arrival.Statement.{statement}
-use Rattle.search.proofs.arrival.Tie as tie
--- `search::arrival` meets its contract: the node is the first one, or what stands before it is free, a driver or a wire.
+use Rattle.free.proofs.arrival.Statement.{statement}
+use Rattle.free.proofs.arrival.Tie as tie
+-- `free::arrival` meets its contract: the node is the first one, or what stands before it is free, a driver or a wire.
 use mathlib.Core.Path.{sym, _∙_}
 use Prim.Native.Nat.{_-_}
 use native.Mathlib.Omega.{arith}
 use Rattle.net.specs.Order.{drivingBy}
 use Rattle.place.proofs.Steps.{driver-same}
-use Rattle.search.proofs.Tables.{arrives-none, arrives-free, arrives-driver, arrives-through}
+use Rattle.free.proofs.Tables.{arrives-none, arrives-free, arrives-driver, arrives-through}
 use borrow.Author.Needs.{needs}
-use Rattle.search.proofs.arrival.Statement.{statement}
-use Rattle.search.proofs.arrival.Tie as tie
+use Rattle.free.proofs.arrival.Statement.{statement}
+use Rattle.free.proofs.arrival.Tie as tie
 
 returns : tie.Need-returns
 returns c =

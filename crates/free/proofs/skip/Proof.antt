@@ -1,25 +1,25 @@
--- `search::skip` meets its contract: the loop has the positions passed.
-use Rattle.search.proofs.Tables.{skips-start, skips-step}
-use Rattle.search.specs.Searching.{SkipsTo}
+-- `free::skip` meets its contract: the loop has the positions passed.
+use Rattle.free.proofs.Tables.{skips-start, skips-step}
+use Rattle.free.specs.Searching.{SkipsTo}
 use lib.ListN.{length, length-set}
 use borrow.Author.Tests.{lt-ltb, le-ltb}
 use borrow.Author.Needs.{needs}
 use native.Mathlib.Omega.{arith}
 use Prim.Native.Nat.{_+_, _-_, _≤_}
 use mathlib.Core.Path.{_≡_, refl, _∙_}
-use Rattle.search.proofs.skip.Statement.{statement}
-use Rattle.search.proofs.skip.Tie as tie
--- `search::skip` meets its contract: the loop has the positions passed.
-use Rattle.search.proofs.Tables.{skips-start, skips-step}
-use Rattle.search.specs.Searching.{SkipsTo}
+use Rattle.free.proofs.skip.Statement.{statement}
+use Rattle.free.proofs.skip.Tie as tie
+-- `free::skip` meets its contract: the loop has the positions passed.
+use Rattle.free.proofs.Tables.{skips-start, skips-step}
+use Rattle.free.specs.Searching.{SkipsTo}
 use lib.ListN.{length, length-set}
 use borrow.Author.Tests.{lt-ltb, le-ltb}
 use borrow.Author.Needs.{needs}
 use native.Mathlib.Omega.{arith}
 use Prim.Native.Nat.{_+_, _-_, _≤_}
 use mathlib.Core.Path.{_≡_, refl, _∙_}
-use Rattle.search.proofs.skip.Statement.{statement}
-use Rattle.search.proofs.skip.Tie as tie
+use Rattle.free.proofs.skip.Statement.{statement}
+use Rattle.free.proofs.skip.Tie as tie
 
 abbrev Inv-loop : tie.InvT-loop
 Inv-loop job lower upper skips₀ places t₀ skips t =

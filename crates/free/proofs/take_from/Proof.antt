@@ -1,15 +1,15 @@
--- `search::take_from` meets its contract: the loop has the sizings with the indices passed.
+-- `free::take_from` meets its contract: the loop has the sizings with the indices passed.
 use Rattle.net.proofs.InOrder.{allowed-by}
-use Rattle.search.proofs.Calls.{place-few, load-most, weight-most, resistance-most, small, passed-to, high-at, fits, taken, passed, ended}
-use Rattle.search.proofs.Turns.{Turning}
+use Rattle.free.proofs.Calls.{place-few, load-most, weight-most, resistance-most, small, passed-to, high-at, fits, taken, passed, ended}
+use Rattle.free.proofs.Turns.{Turning}
 use Rattle.envelope.specs.Kept.{found}
 use Rattle.net.specs.Order.{drivingBy}
 use lib.ListN.{length-set}
 use native.Mathlib.Omega.{arith}
 use Prim.Native.Nat.{suc, _-_}
 use mathlib.Core.Path.{refl, sym, _∙_}
-use Rattle.search.proofs.take_from.Statement.{statement}
-use Rattle.search.proofs.take_from.Tie as tie
+use Rattle.free.proofs.take_from.Statement.{statement}
+use Rattle.free.proofs.take_from.Tie as tie
 
 abbrev Inv-loop : tie.InvT-loop
 Inv-loop job counts order weights upstream driven ups skips lower upper left start added x₀ gathered lean₀ wide₀ t p rows length weight before load top k₀ best₀ x lean wide k best =

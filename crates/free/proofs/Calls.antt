@@ -22,10 +22,10 @@ use Rattle.place.proofs.Upstream.{upstream-most}
 use Rattle.place.proofs.Gathering.{gathered-small}
 use Rattle.place.proofs.Steps.{cost-same, step-same, place-at}
 use Rattle.envelope.specs.Kept.{found}
-use Rattle.search.specs.Searching.{freeLoad, Prepared, Sized, Searched, PassedTo}
-use Rattle.search.proofs.Apart.{ups-fall}
-use Rattle.search.proofs.Tables.{skip-le, skip-free}
-use Rattle.search.proofs.Turns.{Standing, Turning, stands, load-is, turning-start, highs, reached-fits, complete, turn-ready, turn-done, taken-done, passed-done, turning-end}
+use Rattle.free.specs.Searching.{freeLoad, Prepared, Sized, Searched, PassedTo}
+use Rattle.free.proofs.Apart.{ups-fall}
+use Rattle.free.proofs.Tables.{skip-le, skip-free}
+use Rattle.free.proofs.Turns.{Standing, Turning, stands, load-is, turning-start, highs, reached-fits, complete, turn-ready, turn-done, taken-done, passed-done, turning-end}
 
 module _ {c : Counts} {job orders weights upstream driven ups skips lower upper : List ℕ} (r : Prepared c job orders weights upstream driven ups skips lower upper)
     {left added : ℕ} {x gathered lean wide : List ℕ} (s : Sized (drivingBy c job) lower upper upstream driven ups left added x gathered lean wide) (least : ℕ)

@@ -5,7 +5,7 @@ use Prim.Native.Nat.{ℕ, _+_, _≤_, _<_}
 use native.Mathlib.Nat.{eq-or-lt-of-le}
 use native.Mathlib.Omega.{arith}
 use Rattle.net.specs.Driving.{Driving, cost}
-use Rattle.search.specs.Searching.{PassedTo}
+use Rattle.free.specs.Searching.{PassedTo}
 
 module _ {net : Driving} {w u p l added least low top : ℕ} where
   pub passing-start : low ≤ top → PassedTo net w u p l added least low top low

@@ -1,13 +1,13 @@
--- `search::pass_over` meets its contract: the loop has the indices passed.
+-- `free::pass_over` meets its contract: the loop has the indices passed.
 use native.Mathlib.Omega.{arith}
 use Prim.Native.Nat.{suc, _-_}
 use Rattle.net.specs.Order.{placedBy}
-use Rattle.search.specs.Searching.{PassedTo}
-use Rattle.search.proofs.Passing.{passing-start, passing-step}
-use Rattle.search.proofs.pass_over.Statement.{statement}
-use Rattle.search.proofs.pass_over.Tie as tie
-use Rattle.search.proofs.pass_over.Reads as reads
-use Rattle.search.proofs.pass_over.Lts as lts
+use Rattle.free.specs.Searching.{PassedTo}
+use Rattle.free.proofs.Passing.{passing-start, passing-step}
+use Rattle.free.proofs.pass_over.Statement.{statement}
+use Rattle.free.proofs.pass_over.Tie as tie
+use Rattle.free.proofs.pass_over.Reads as reads
+use Rattle.free.proofs.pass_over.Lts as lts
 use Rattle.place.proofs.step.Reads as step-reads
 use Rattle.quantity.proofs.add_delay.Reads as add-delay-reads
 

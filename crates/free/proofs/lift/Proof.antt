@@ -1,4 +1,4 @@
--- `search::lift` meets its contract: the loop has the positions passed.
+-- `free::lift` meets its contract: the loop has the positions passed.
 use mathlib.Core.Path.{_≡_, ap, _∙_}
 use Prim.Native.Nat.{_-_, _≤_}
 use native.Mathlib.Omega.{arith}
@@ -7,12 +7,12 @@ use Rattle.net.specs.Driving.{before}
 use Rattle.net.specs.Order.{drivingBy}
 use Rattle.net.proofs.InOrder.{placed}
 use Rattle.place.proofs.Upstream.{before-start, before-step}
-use Rattle.search.specs.Searching.{UpsTo}
-use Rattle.search.proofs.Tables.{arrives-reads}
+use Rattle.free.specs.Searching.{UpsTo}
+use Rattle.free.proofs.Tables.{arrives-reads}
 use borrow.Author.Needs.{needs}
-use Rattle.search.proofs.lift.Statement.{statement}
-use Rattle.search.proofs.lift.Tie as tie
--- `search::lift` meets its contract: the loop has the positions passed.
+use Rattle.free.proofs.lift.Statement.{statement}
+use Rattle.free.proofs.lift.Tie as tie
+-- `free::lift` meets its contract: the loop has the positions passed.
 use mathlib.Core.Path.{_≡_, ap, _∙_}
 use Prim.Native.Nat.{_-_, _≤_}
 use native.Mathlib.Omega.{arith}
@@ -21,11 +21,11 @@ use Rattle.net.specs.Driving.{before}
 use Rattle.net.specs.Order.{drivingBy}
 use Rattle.net.proofs.InOrder.{placed}
 use Rattle.place.proofs.Upstream.{before-start, before-step}
-use Rattle.search.specs.Searching.{UpsTo}
-use Rattle.search.proofs.Tables.{arrives-reads}
+use Rattle.free.specs.Searching.{UpsTo}
+use Rattle.free.proofs.Tables.{arrives-reads}
 use borrow.Author.Needs.{needs}
-use Rattle.search.proofs.lift.Statement.{statement}
-use Rattle.search.proofs.lift.Tie as tie
+use Rattle.free.proofs.lift.Statement.{statement}
+use Rattle.free.proofs.lift.Tie as tie
 
 abbrev Inv-loop : tie.InvT-loop
 Inv-loop job counts order hangs lower upper ups₀ places t₀ ups t =

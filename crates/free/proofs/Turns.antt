@@ -22,9 +22,9 @@ use Rattle.net.proofs.InOrder.{allowed-by, placed, inLimits}
 use Rattle.place.specs.Held.{free, GatheredFrom, fixedFrom}
 use Rattle.place.proofs.After.{after-step, after-same, after-le}
 use Rattle.place.proofs.Gathering.{gathered-all, gathering-step}
-use Rattle.search.specs.Searching.{freeLoad, pricedFrom, Prepared, Sized, Searched}
-use Rattle.search.proofs.Apart.{ups-fall, delay-apart, driven-apart}
-use Rattle.search.proofs.Tables.{skip-le, next-index, no-index, priced-skip, gathers-skip, takes-skip}
+use Rattle.free.specs.Searching.{freeLoad, pricedFrom, Prepared, Sized, Searched}
+use Rattle.free.proofs.Apart.{ups-fall, delay-apart, driven-apart}
+use Rattle.free.proofs.Tables.{skip-le, next-index, no-index, priced-skip, gathers-skip, takes-skip}
 
 -- a larger delay than the least changes nothing
 take-none : (x : List ℕ) (d : ℕ) (f : Found) → f .least < d → f ≡ take x d f

@@ -13,7 +13,7 @@ use Rattle.net.proofs.Sum.{eqb-iff, sum-same, sum-only}
 use Rattle.net.proofs.Driving.{driven-behind}
 use Rattle.net.proofs.Held.{more, behind-more, charged, apart}
 use Rattle.place.specs.Held.{sumAfter, free, heldLoad, DrivenFrom, UpstreamTo, fixedFrom}
-use Rattle.search.specs.Searching.{arrives, UpsTo, freeLoad, pricedFrom}
+use Rattle.free.specs.Searching.{arrives, UpsTo, freeLoad, pricedFrom}
 
 -- a load arrives at no node behind its place
 pub ups-fall : (net : Driving) → Placed net → (lower upper ups : List ℕ) (n : ℕ) → UpsTo net lower upper n ups → (d q : ℕ) → q < d → q < n → q < net .places → at ups q ≤ q

@@ -17,7 +17,7 @@ use Rattle.lattice.proofs.Searching.{takes-append}
 use Rattle.net.specs.Driving.{Driving, before, shownLoad, addedDelay, delayBy}
 use Rattle.place.specs.Held.{free, GatheredFrom}
 use Rattle.place.proofs.After.{after-skip}
-use Rattle.search.specs.Searching.{arrives, SkipsTo, freeLoad, pricedFrom}
+use Rattle.free.specs.Searching.{arrives, SkipsTo, freeLoad, pricedFrom}
 
 module _ (net : Driving) (lower upper : List ℕ) where
   -- where a load at a node arrives: at the node itself, but through a held wire

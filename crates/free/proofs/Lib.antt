@@ -1,0 +1,5 @@
+pub mod Apart
+pub mod Tables
+pub mod Turns
+pub mod Calls
+pub mod Passing
