@@ -8,7 +8,7 @@ use Rattle.net.specs.Answers.{Measured, Refined, measured, refined, chooseNumbe
 use Rattle.elmore.specs.declared.DelayAndLoad.{DelayAndLoad}
 use Rattle.operations.specs.declared.Measurement.{Measurement}
 use Rattle.operations.specs.declared.Measurement.the-variants.{Figures, Refused}
-use Rattle.operations.specs.declared.EndsAndDelay.{EndsAndDelay}
+use Rattle.best.specs.declared.EndsAndDelay.{EndsAndDelay}
 use Rattle.operations.specs.declared.Refinement.{Refinement}
 use Rattle.operations.specs.declared.Refinement.the-variants.{Best, Refused as NotRefined}
 use Rattle.operations.specs.declared.Preference.the-variants.{First, Second, Neither}

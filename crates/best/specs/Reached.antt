@@ -11,7 +11,7 @@ use Rattle.net.specs.Delay.{delay}
 use Rattle.net.specs.Sizings.{allowed}
 use Rattle.net.specs.Driving.{allowedBy, delayBy}
 use Rattle.net.specs.Order.{drivingBy}
-use Rattle.operations.specs.declared.EndsAndDelay.{EndsAndDelay}
+use Rattle.best.specs.declared.EndsAndDelay.{EndsAndDelay}
 
 -- r has the smallest and the largest best index at place p of x, the rest held, and the delay of x with the smallest put there.
 pub record ReachedAt (sp : Space) (D : List ℕ → ℕ) (x : List ℕ) (p : ℕ) (r : EndsAndDelay) : Type 0 where

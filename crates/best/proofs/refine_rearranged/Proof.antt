@@ -1,12 +1,12 @@
--- `operations::refine_rearranged` meets its contract: the sizing by position is that by place, and so is what is reached.
+-- `best::refine_rearranged` meets its contract: the sizing by position is that by place, and so is what is reached.
 use native.Mathlib.Omega.{arith}
 use Rattle.net.specs.Net.{netBy}
 use Rattle.net.proofs.Questions.{allowed-long}
 use Rattle.place.proofs.Steps.{place-at}
-use Rattle.operations.proofs.Cases.{held-is, held-allowed, position-few, reached-by-place}
+use Rattle.best.proofs.Reaching.{held-is, held-allowed, position-few, reached-by-place}
 use borrow.Author.Needs.{needs}
-use Rattle.operations.proofs.refine_rearranged.Statement.{statement}
-use Rattle.operations.proofs.refine_rearranged.Tie as tie
+use Rattle.best.proofs.refine_rearranged.Statement.{statement}
+use Rattle.best.proofs.refine_rearranged.Tie as tie
 
 rearrange-requires : tie.Need-rearrange-requires
 rearrange-requires c κs =

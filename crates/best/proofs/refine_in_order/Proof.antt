@@ -1,4 +1,4 @@
--- `operations::refine_in_order` meets its contract: what the place weighs, drives and has upstream is found as settling it asks, and the delay changes
+-- `best::refine_in_order` meets its contract: what the place weighs, drives and has upstream is found as settling it asks, and the delay changes
 -- as the cost of its index.
 use mathlib.Core.Path.{_∙_}
 use Prim.Native.Nat.{suc}
@@ -10,10 +10,10 @@ use Rattle.place.proofs.Driving.{driven-all}
 use Rattle.place.proofs.Fixed.{fixed-whole}
 use Rattle.place.proofs.Path.{some-upstream}
 use Rattle.refine.proofs.Settling.{figures-small, settled-by-place}
-use Rattle.operations.proofs.Cases.{exchange-asks, exchanged}
+use Rattle.best.proofs.Reaching.{exchange-asks, exchanged}
 use borrow.Author.Needs.{needs}
-use Rattle.operations.proofs.refine_in_order.Statement.{statement}
-use Rattle.operations.proofs.refine_in_order.Tie as tie
+use Rattle.best.proofs.refine_in_order.Statement.{statement}
+use Rattle.best.proofs.refine_in_order.Tie as tie
 
 weigh-requires : tie.Need-weigh-requires
 weigh-requires c κs =

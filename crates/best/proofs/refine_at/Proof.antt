@@ -1,4 +1,4 @@
--- `operations::refine_at` meets its contract: the working space holds the largest job.
+-- `best::refine_at` meets its contract: the working space holds the largest job.
 use mathlib.Core.Path.{sym}
 use Prim.Native.Nat.{ℕ, _≤_}
 use native.Mathlib.Omega.{arith}
@@ -6,8 +6,8 @@ use lib.ListN.{replicate}
 use lib.Seq.{length-take-le}
 use Rattle.net.specs.Job.{placesBy}
 use borrow.Author.Needs.{needs}
-use Rattle.operations.proofs.refine_at.Statement.{statement}
-use Rattle.operations.proofs.refine_at.Tie as tie
+use Rattle.best.proofs.refine_at.Statement.{statement}
+use Rattle.best.proofs.refine_at.Tie as tie
 
 arrange-requires : tie.Need-arrange-requires
 arrange-requires c κs = search needs
