@@ -274,13 +274,20 @@ struct Wire<'a> {
     length: u64,
 }
 
-/// A part of the tree: the weight of its sinks, its load as seen from above, what its repeaters charge, and the scaled delay
-/// that arises inside it.
+/// A segment at its width: the weight and the capacitance of its sink, and the resistance and the capacitance of its wire.
+#[derive(Clone, Copy, Default)]
+struct Sized {
+    weight: u64,
+    sink: u64,
+    resistance: u64,
+    capacitance: u64,
+}
+
+/// A part of the tree: the weight of its sinks, its load as seen from above, and the scaled delay that arises inside it.
 #[derive(Clone, Copy, Default)]
 struct Part {
     weight: u64,
     load: u64,
-    charged: u64,
     delay: u64,
 }
 
@@ -346,16 +353,16 @@ impl<'a> Net<'a> {
         }
     }
 
-    /// Branches seen from before their repeater, which has the size k: the load is its gate.
-    fn through_repeater(&self, k: u8, branches: Part) -> Part {
+    /// Branches seen from before their repeater, which has the size k: the load is its gate. Beside them what it charges.
+    fn through_repeater(&self, k: u8, branches: Part) -> (Part, u64) {
         let size = &self.sizes[usize::from(k)];
         let charged = word(size, 12) + branches.load;
-        Part {
+        let part = Part {
             weight: branches.weight,
             load: word(size, 8),
-            charged: branches.charged + charged,
             delay: branches.delay + 2 * branches.weight * (word(size, 4) * charged),
-        }
+        };
+        (part, charged)
     }
 
     /// What all stages contribute to every sink, and what they charge: each its own output and what it drives.
@@ -370,6 +377,48 @@ impl<'a> Net<'a> {
             driven = word(size, 8);
         }
         (delay, load)
+    }
+}
+
+/// What a walk over the branches reads: the segments at their widths, and what hangs behind the repeaters that are known.
+struct Walk<'a> {
+    links: &'a Links,
+    seats: &'a [u8; SEGMENTS],
+    segments: [Sized; SEGMENTS],
+    parts: [Part; REPEATERS],
+    count: usize,
+}
+
+impl Walk<'_> {
+    /// What hangs at the far end of a segment: its branches, seen through the repeater where one sits there. Where it has no
+    /// branches no call is made, because half of a tree's segments are such.
+    #[inline(always)]
+    fn hanging(&self, i: usize) -> Part {
+        let child = self.links.first[i + 1];
+        if child == self.count {
+            return Part::default();
+        }
+        match self.parts.get(usize::from(self.seats[i])) {
+            Some(&part) => part,
+            None => self.branches(child),
+        }
+    }
+
+    /// Segment j and its siblings after it, each with all below it.
+    fn branches(&self, j: usize) -> Part {
+        let mut part = Part::default();
+        let mut i = j;
+        while i < self.count {
+            let segment = self.segments[i];
+            let below = self.hanging(i);
+            let weight = segment.weight + below.weight;
+            let under = segment.sink + below.load;
+            part.weight += weight;
+            part.load += segment.capacitance + under;
+            part.delay += weight * (segment.resistance * (segment.capacitance + 2 * under)) + below.delay;
+            i = self.links.next[i];
+        }
+        part
     }
 }
 
@@ -390,58 +439,56 @@ impl<'a> Tree<'a> {
         Tree { net, links, seats }
     }
 
-    /// What hangs at the far end of a segment: its branches, seen through the repeater where one sits there. Where it has no
-    /// branches no call is made, because half of a tree's segments are such.
-    #[inline(always)]
-    fn hanging(&self, x: &Indices, i: usize) -> Part {
-        let child = self.links.first[i + 1];
-        if child == self.net.segments.len() {
-            return Part::default();
-        }
-        let branches = self.branches(x, child);
-        match x.repeaters.get(usize::from(self.seats[i])) {
-            Some(&k) => self.net.through_repeater(k, branches),
-            None => branches,
-        }
-    }
-
-    /// Segment j and its siblings after it, each with all below it.
-    fn branches(&self, x: &Indices, j: usize) -> Part {
-        let mut part = Part::default();
-        let mut i = j;
-        while let Some(segment) = self.net.segments.get(i) {
-            let below = self.hanging(x, i);
+    /// The whole tree by a walk over its branches, and what its repeaters charge. The repeaters come from the last to the first,
+    /// so that each is known before the walk comes to its segment.
+    fn by_walk(&self, x: &Indices) -> (Part, u64) {
+        let mut walk = Walk {
+            links: self.links,
+            seats: &self.seats,
+            segments: [Sized::default(); SEGMENTS],
+            parts: [Part::default(); REPEATERS],
+            count: self.net.segments.len(),
+        };
+        for ((sized, segment), &k) in walk.segments.iter_mut().zip(self.net.segments).zip(x.segments) {
             let Wire { rows, length } = self.net.wire(segment);
-            let row = &rows[usize::from(x.segments[i])];
-            let (resistance, own) = (word(row, 4) * length, word(row, 8) * length);
-            let weight = u64::from(segment[12]) + below.weight;
-            let under = word(segment, 8) + below.load;
-            part.weight += weight;
-            part.load += own + under;
-            part.charged += below.charged;
-            part.delay += weight * (resistance * (own + 2 * under)) + below.delay;
-            i = self.links.next[i];
+            let row = &rows[usize::from(k)];
+            *sized = Sized {
+                weight: u64::from(segment[12]),
+                sink: word(segment, 8),
+                resistance: word(row, 4) * length,
+                capacitance: word(row, 8) * length,
+            };
         }
-        part
+        let mut charged = 0;
+        for (r, (repeater, &k)) in self.net.repeaters.iter().zip(x.repeaters).enumerate().rev() {
+            let branches = walk.branches(self.links.first[1 + usize::from(repeater[2])]);
+            let (part, own) = self.net.through_repeater(k, branches);
+            walk.parts[r] = part;
+            charged += own;
+        }
+        (walk.branches(self.links.first[0]), charged)
     }
 
     /// The whole tree by one pass, from the last segment to the first, in runs that end before a repeater: the segment at whose
     /// far end it sits comes next, and its branches are seen through it.
-    fn by_pass(&self, x: &Indices) -> Part {
+    fn by_pass(&self, x: &Indices) -> (Part, u64) {
         let mut below = [(0, 0); SEGMENTS + 1];
         let mut part = Part::default();
+        let mut charged = 0;
         let mut end = self.net.segments.len();
         for (repeater, &k) in self.net.repeaters.iter().zip(x.repeaters).rev() {
             let node = 1 + usize::from(repeater[2]);
             part.delay += self.pass(x, &mut below, node, end);
             (part.weight, part.load) = below[node];
-            part = self.net.through_repeater(k, part);
+            let own;
+            (part, own) = self.net.through_repeater(k, part);
+            charged += own;
             below[node].1 = part.load;
             end = node;
         }
         part.delay += self.pass(x, &mut below, 0, end);
         (part.weight, part.load) = below[0];
-        part
+        (part, charged)
     }
 
     /// The segments from `start` to `end`, the end left out, from the last to the first: each adds its weight and load to its
@@ -468,13 +515,9 @@ impl<'a> Tree<'a> {
     /// The scaled delay and the load figure of a sizing: what its stages and its repeaters charge.
     fn figures<const PASS: bool>(&self, sizing: &[u8]) -> (u64, u64) {
         let x = self.net.by_kind(sizing);
-        let tree = if PASS {
-            self.by_pass(&x)
-        } else {
-            self.branches(&x, self.links.first[0])
-        };
+        let (tree, charged) = if PASS { self.by_pass(&x) } else { self.by_walk(&x) };
         let (stages, load) = self.net.stages_figures(x.stages, tree.load);
-        (tree.weight * (2 * stages) + tree.delay, load + tree.charged)
+        (tree.weight * (2 * stages) + tree.delay, load + charged)
     }
 
     /// The tie at a place, the rest held, by the whole delay at each index; its cost is the delay. x is left at some index.
@@ -680,18 +723,39 @@ impl<'a> Sums<'a> {
         }
     }
 
-    /// One pass from the last position to the first: each held place adds the load that it shows where it hangs.
-    fn hold(&mut self, net: &Net, lower: &[u8], upper: &[u8]) {
+    /// One pass from the last position to the first: each held place adds the load that it shows where it hangs. The answer is
+    /// what the held places add to the delay, where that is asked for.
+    fn hold<const ADD: bool>(&mut self, net: &Net, lower: &[u8], upper: &[u8]) -> u64 {
         let mut gathered = [0; PLACES + 1];
+        let mut delay = 0;
         for t in (0..net.places()).rev() {
             let segment = net.segment_at(self.at.order[t]);
             let sink = segment.map_or(0, |segment| word(segment, 8));
             self.driven[t] = sink + gathered[t + 1];
             if lower[t] >= upper[t] {
                 let wire = segment.map(|segment| net.wire(segment));
-                gathered[self.at.hangs[t]] += net.step(0, wire, lower[t], self.driven[t]).load;
+                let weight = if ADD { self.weights[t] } else { 0 };
+                let step = net.step(weight, wire, lower[t], self.driven[t]);
+                gathered[self.at.hangs[t]] += step.load;
+                delay += step.delay;
             }
         }
+        delay
+    }
+
+    /// What the delay grows by with each unit of the load that a position of a sizing shows: along the path to the driver before
+    /// it, and no further.
+    fn upstream_on_path(&self, net: &Net, x: &[u8], t: usize) -> u64 {
+        let mut sum = 0;
+        let mut node = self.at.hangs[t];
+        while let Some(a) = node.checked_sub(1) {
+            match net.wire_at(self.at.order[a]) {
+                None => return sum + self.weights[a] * word(&net.sizes[usize::from(x[a])], 4),
+                Some(Wire { rows, length }) => sum += 2 * self.weights[a] * (word(&rows[usize::from(x[a])], 4) * length),
+            }
+            node = self.at.hangs[a];
+        }
+        sum
     }
 
     /// What the delay grows by with each unit of load behind position a, which is held at the index k. Nothing passes beyond a
@@ -730,21 +794,12 @@ impl<'a> Sums<'a> {
         Tie::among(lowest, highest, |k| self.cost(net, t, wire, k))
     }
 
-    /// What the place at a position adds to the delay where it is held at the index k.
-    fn own_delay(&self, net: &Net, t: usize, k: u8) -> u64 {
-        net.step(self.weights[t], net.wire_at(self.at.order[t]), k, self.driven[t])
-            .delay
-    }
-
     /// The tie at a place of a sizing, which goes by place; its cost is the delay that either end reaches.
     fn refined(&mut self, net: &Net, sizing: &[u8], place: usize) -> Tie {
         let x = &self.at.arranged(sizing)[..sizing.len()];
         let t = self.at.position[place];
-        self.hold(net, x, x);
-        for before in 0..=t {
-            self.go_upstream(net, x, x, before);
-        }
-        let delay: u64 = (0..x.len()).map(|t| self.own_delay(net, t, x[t])).sum();
+        let delay = self.hold::<true>(net, x, x);
+        self.upstream[t] = self.upstream_on_path(net, x, t);
         let tie = self.settled(net, t);
         Tie {
             cost: delay + tie.cost - self.cost(net, t, net.wire_at(place), x[t]),
@@ -758,7 +813,7 @@ impl<'a> Sums<'a> {
             *index = net.first_index(p, side);
         }
         loop {
-            self.hold(net, x, x);
+            self.hold::<false>(net, x, x);
             let mut changed = false;
             for t in 0..x.len() {
                 self.go_upstream(net, x, x, t);
@@ -774,7 +829,7 @@ impl<'a> Sums<'a> {
 
     /// The search between the bounds.
     fn search(&mut self, net: &Net, lower: &[u8], upper: &[u8], x: &mut [u8], found: &mut Found) {
-        self.hold(net, lower, upper);
+        let fixed = self.hold::<true>(net, lower, upper);
         for t in 0..lower.len() {
             self.go_upstream(net, lower, upper, t);
         }
@@ -790,7 +845,7 @@ impl<'a> Sums<'a> {
             gathered: [0; PLACES + 1],
             found,
         }
-        .all();
+        .all(fixed);
     }
 }
 
@@ -809,16 +864,13 @@ struct Search<'a, 'f> {
 }
 
 impl Search<'_, '_> {
-    fn all(&mut self) {
+    /// All sizings between the bounds, where the held places add `fixed`.
+    fn all(&mut self, fixed: u64) {
         self.x.copy_from_slice(self.lower);
-        let mut fixed = 0;
         for t in 0..self.x.len() {
             let held = self.lower[t] == self.upper[t];
             self.ups[t] = self.arrival(self.at.hangs[t]);
             self.skips[t + 1] = if held { self.skips[t] } else { t + 1 };
-            if held {
-                fixed += self.sums.own_delay(&self.net, t, self.lower[t]);
-            }
         }
         match self.skips[self.x.len()] {
             0 => self.found.keep(self.x, fixed),
