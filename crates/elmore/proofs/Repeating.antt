@@ -13,12 +13,12 @@ use Rattle.net.specs.Checked.{Ordered, Limited}
 use Rattle.net.proofs.Order.{repeated-none}
 use Rattle.net.proofs.Weights.{repeater-one}
 use Rattle.net.proofs.Questions.{ordered, limited}
-use Rattle.net.proofs.Bound.{branches-bounded, branchesLoad-small, repeaterCharge-small, repeaterDelay-small}
+use Rattle.net.proofs.Bound.{branches-bounded, branchesLoad-small, repeaterDelay-small}
 use Rattle.elmore.specs.declared.Part.{Part}
 use Rattle.elmore.specs.declared.DelayAndLoad.{DelayAndLoad}
 use Rattle.elmore.specs.Ready.{Ready}
 use Rattle.elmore.specs.Tally.{branchesOf, Tally, Hanging, DriverOf}
-use Rattle.elmore.proofs.Tallies.{inside-small, charged-most}
+use Rattle.elmore.proofs.Tallies.{inside-small}
 
 -- at a repeater's segment a repeater sits
 repeated-there : (net : Net) (r : ℕ) → r < net .repeaters → repeated net (net .site r) ≡ true
@@ -48,15 +48,12 @@ module _ {c : Counts} {job x : List ℕ} (ready : Ready c job x) where
 
     -- at the size k
     module _ (k : ℕ) (e : k ≡ repeaterSize net x r) (one : DelayAndLoad) (f : DriverOf net k (u .load .0) one) where
-      charge-is : one .load .0 ≡ repeaterCharge net x r
+      pub charge-is : one .load .0 ≡ repeaterCharge net x r
       charge-is = f .load ∙ rw (e, t .load)
 
       weighted-is : 2 * u .weight * one .delay .0 ≡ ownRepeaterDelay net x r
       unfolding weightBehind
       weighted-is = rw (f .delay, e, t .load, t .weight)
-
-      pub charged-room : u .charged .0 + one .load .0 < 2 ^ 63
-      charged-room = omega (arith, charge-is, repeaterCharge-small net o l x (ready .inRanges) r h, t .charged, charged-most ready (suc (net .site r)) (o .sites r h))
 
       -- as often as w says: twice the weight of all sinks is at most 33,150
       pub delay-room : (w : ℕ) → w ≤ 33150 → w * one .delay .0 + u .delay .0 < 2 ^ 63
@@ -64,13 +61,12 @@ module _ {c : Counts} {job x : List ℕ} (ready : Ready c job x) where
           let d : one .delay .0 ≤ 1370000000000 = rw (f .delay, e, t .load) (repeaterDelay-small net o l x (ready .inRanges) r h) in
           omega (arith, mul-le-mul m d, t .delay, inside-small ready (suc (net .site r)) (o .sites r h))
 
-      pub repeated-hanging : (q : Part) → q .weight ≡ u .weight → q .load .0 ≡ net .gate k → q .charged .0 ≡ u .charged .0 + one .load .0
-          → q .delay .0 ≡ 2 * u .weight * one .delay .0 + u .delay .0 → Hanging net x (net .site r) q
+      pub repeated-hanging : (q : Part) → q .weight ≡ u .weight → q .load .0 ≡ net .gate k → q .delay .0 ≡ 2 * u .weight * one .delay .0 + u .delay .0
+          → Hanging net x (net .site r) q
       unfolding under
-      repeated-hanging q i j m n =
+      repeated-hanging q i j n =
           record {
             weight = omega (arith, i, t .weight);
             load = rw (repeated-there net r h, repeater-one net o (λ z. net .gate (repeaterSize net x z)) r h) (omega (arith, rw e at j));
-            charged = omega (arith, m, charge-is, t .charged, repeater-one net o (repeaterCharge net x) r h);
             delay = omega (arith, n, weighted-is, t .delay, repeater-one net o (ownRepeaterDelay net x) r h);
           }

@@ -43,21 +43,23 @@ module _ (net : Net) where
       kept k (inl e) = rw (e, ← g) here
       kept k (inr l) = getD-set-other seats q (net .site k) r 0 (λ e. omega (arith, o .rising k r l h)) ∙ s .there k l
 
-      alone : (i : ℕ) → i < net .segments → (b : Bool) → eqb i q ≡ b → at (set seats q r) i < net .repeaters → net .site (at (set seats q r) i) ≡ i
-      alone i l true e = rw (eqb-true i q e) (λ m. ap (net .site) here ∙ sym g)
+      alone : (i : ℕ) → i < net .segments → (b : Bool) → eqb i q ≡ b → at (set seats q r) i < 8
+          → (at (set seats q r) i < net .repeaters) × (net .site (at (set seats q r) i) ≡ i)
+      alone i l true e = rw (eqb-true i q e) (λ m. (omega (arith, here), ap (net .site) here ∙ sym g))
       alone i l false e = rw (getD-set-other seats q i r 0 (eqb-false i q e)) (s .only i l)
 
-  -- a repeater sits where it has its seat
-  pub seat-site : {seats : List ℕ} → Seated net seats → (i r : ℕ) → i < net .segments → r ≡ at seats i → r < net .repeaters → net .site r ≡ i
-  seat-site s i r h e k = ap (net .site) e ∙ s .only i h (omega arith)
+  -- a seat below 8 is that of the repeater there
+  pub seat-site : {seats : List ℕ} → Seated net seats → (i r : ℕ) → i < net .segments → r ≡ at seats i → r < 8
+      → (r < net .repeaters) × (net .site r ≡ i)
+  seat-site s i r h e k = rw e (s .only i h (omega arith))
 
   -- where no repeater has its seat, none sits
-  pub seat-none : {seats : List ℕ} → Seated net seats → (i : ℕ) → net .repeaters ≤ at seats i → repeated net i ≡ false
-  seat-none {seats} s i h = go (repeated net i) refl
+  pub seat-none : Limited net → {seats : List ℕ} → Seated net seats → (i : ℕ) → 8 ≤ at seats i → repeated net i ≡ false
+  seat-none l {seats} s i h = go (repeated net i) refl
     where
       go : (b : Bool) → repeated net i ≡ b → b ≡ false
       go false e = refl
       go true e =
           let k = repeated-one net i e in
           let t : at seats i ≡ k .0 = rw (k .2) at (s .there (k .0) (k .1)) in
-          absurd (omega (arith, t, k .1))
+          absurd (omega (arith, t, k .1, l .repeaters))

@@ -18,7 +18,6 @@ use Rattle.net.proofs.Sum.{sum-zero, sum-part, sum-add, sum-bounded}
 use Rattle.net.proofs.Branches.{branches-are}
 use Rattle.net.proofs.Order.{repeated-one, repeated-none}
 use Rattle.net.proofs.Questions.{ordered, limited, checked-charged}
-use Rattle.net.proofs.Charged.{charged-whole}
 use Rattle.net.proofs.Bound.{branches-most, branches-bounded, stages-bounded, weightBelow-small, branchesLoad-small, charged-small, segmentDelay-small, ownDelay-small, repeaterCharge-small, ownRepeaterDelay-small, stageCharge-small, driven-small}
 use Rattle.net.proofs.Exchange.{repeaters-whole, delay-inside}
 use Rattle.links.specs.Links.{First, siblings}
@@ -27,7 +26,7 @@ use Rattle.elmore.specs.declared.Segment.{Segment}
 use Rattle.elmore.specs.declared.Part.{Part}
 use Rattle.elmore.specs.Ready.{Ready}
 use Rattle.elmore.specs.Step.{Fields, Empty, lag, under, RoomBehind, Behind, RoomJoined, Joined}
-use Rattle.elmore.specs.Tally.{branchesOf, branchOf, weightWith, loadWith, chargedWith, delayWith, Tally, Hanging}
+use Rattle.elmore.specs.Tally.{branchesOf, branchOf, weightWith, loadWith, delayWith, Tally, Hanging}
 
 -- past the last segment
 pub none-tally : {net : Net} {x : List ℕ} (j : ℕ) → j ≡ net .segments → (r : Part) → Empty r → Tally net x siblings j r
@@ -35,7 +34,6 @@ none-tally {net} {x} j e r n =
     record {
       weight = n .weight ∙ sym (siblings-none net (weightWith net x) j e);
       load = n .load ∙ sym (siblings-none net (loadWith net x) j e);
-      charged = n .charged ∙ sym (siblings-none net (chargedWith net x) j e);
       delay = n .delay ∙ sym (siblings-none net (delayWith net x) j e);
     }
 
@@ -45,7 +43,6 @@ pub record Passed (net : Net) (x : List ℕ) (j i : ℕ) (r : Part) : Type 0 whe
   pub within : i ≤ net .segments
   pub weight : r .weight + siblings net (weightWith net x) i ≡ siblings net (weightWith net x) j
   pub load : r .load .0 + siblings net (loadWith net x) i ≡ siblings net (loadWith net x) j
-  pub charged : r .charged .0 + siblings net (chargedWith net x) i ≡ siblings net (chargedWith net x) j
   pub delay : r .delay .0 + siblings net (delayWith net x) i ≡ siblings net (delayWith net x) j
 
 -- at first none is passed
@@ -56,7 +53,6 @@ passed-none {net} {x} j h r n =
       within = h;
       weight = omega (arith, n .weight);
       load = omega (arith, n .load);
-      charged = omega (arith, n .charged);
       delay = omega (arith, n .delay);
     }
 
@@ -67,7 +63,6 @@ passed-all {net} {x} j i h r p =
     record {
       weight = omega (arith, p .weight, siblings-none net (weightWith net x) i e);
       load = omega (arith, p .load, siblings-none net (loadWith net x) i e);
-      charged = omega (arith, p .charged, siblings-none net (chargedWith net x) i e);
       delay = omega (arith, p .delay, siblings-none net (delayWith net x) i e);
     }
 
@@ -96,7 +91,6 @@ module _ {c : Counts} {job x : List ℕ} (ready : Ready c job x) where
       record {
         weight = t .weight ∙ sym (siblings-branches net (o .parents) (weightWith net x) q i h f);
         load = t .load ∙ sym (siblings-branches net (o .parents) (loadWith net x) q i h f);
-        charged = t .charged ∙ sym (siblings-branches net (o .parents) (chargedWith net x) q i h f);
         delay = t .delay ∙ sym (siblings-branches net (o .parents) (delayWith net x) q i h f);
       }
 
@@ -121,15 +115,9 @@ module _ {c : Counts} {job x : List ℕ} (ready : Ready c job x) where
   inside-small q h = omega (arith, branches-most net o l (delayWith net x) own (λ i m k. omega arith) q h, own-small)
 
   -- eight repeaters charge at most 13,700,000 each
-  pub charged-most : (q : ℕ) → q ≤ net .segments → branchesOf net (chargedWith net x) q ≤ 109600000
-  charged-most q h =
-      omega (
-        arith,
-        branches-most net o l (chargedWith net x) (atRepeater net (repeaterCharge net x)) (λ i m k. omega arith) q h,
-        repeaters-whole net (o .parents) (o .sites) (repeaterCharge net x),
-        sum-bounded (net .repeaters) 13700000 (repeaterCharge net x) (repeaterCharge-small net o l x a),
-        mul-le-mul-right 13700000 (l .repeaters),
-      )
+  pub charged-most : sum (net .repeaters) (repeaterCharge net x) ≤ 109600000
+  charged-most =
+      omega (arith, sum-bounded (net .repeaters) 13700000 (repeaterCharge net x) (repeaterCharge-small net o l x a), mul-le-mul-right 13700000 (l .repeaters))
 
   -- the siblings from one on are among the branches at their node
   siblings-most : (has : ℕ → ℕ → ℕ) (j : ℕ) → j < net .segments → siblings net has j ≤ branchesOf net has (net .parent j)
@@ -149,7 +137,6 @@ module _ {c : Counts} {job x : List ℕ} (ready : Ready c job x) where
       record {
         weight = omega (arith, t .weight);
         load = rw e (omega (arith, t .load));
-        charged = omega (arith, t .charged, none-there i e (repeaterCharge net x));
         delay = omega (arith, t .delay, none-there i e (ownRepeaterDelay net x));
       }
 
@@ -199,7 +186,6 @@ module _ {c : Counts} {job x : List ℕ} (ready : Ready c job x) where
         record {
           weight = omega (arith, b .weight, f .weight, v .weight);
           load = omega (arith, b .load, under-is, f .wire .capacitance);
-          charged = b .charged ∙ v .charged;
           delay = b .delay ∙ rw (weight-is, lag-is) (v .delay);
         }
 
@@ -219,7 +205,6 @@ module _ {c : Counts} {job x : List ℕ} (ready : Ready c job x) where
         record {
           weight = omega (arith, p .weight, t .weight, step (weightWith net x), siblings-most (weightWith net x) j m, branches-bounded net o l 255 (l .weights) (net .parent j) n);
           load = omega (arith, p .load, t .load, step (loadWith net x), siblings-most (loadWith net x) j m, branchesLoad-small net o l x a (net .parent j) n);
-          charged = omega (arith, p .charged, t .charged, step (chargedWith net x), siblings-most (chargedWith net x) j m, charged-most (net .parent j) n);
           delay = omega (arith, p .delay, t .delay, step (delayWith net x), siblings-most (delayWith net x) j m, inside-small (net .parent j) n);
         }
 
@@ -230,7 +215,6 @@ module _ {c : Counts} {job x : List ℕ} (ready : Ready c job x) where
           within = f .within;
           weight = omega (arith, p .weight, t .weight, e .weight, step (weightWith net x));
           load = omega (arith, p .load, t .load, e .load, step (loadWith net x));
-          charged = omega (arith, p .charged, t .charged, e .charged, step (chargedWith net x));
           delay = omega (arith, p .delay, t .delay, e .delay, step (delayWith net x));
         }
 
@@ -244,10 +228,10 @@ module _ {c : Counts} {job x : List ℕ} (ready : Ready c job x) where
       pub whole-delay : tree .weight * (2 * d) + tree .delay .0 ≡ delay net x
       whole-delay = rw (t .weight, t .delay, e) (sym (delay-inside net (o .parents) (o .sites) x))
 
-    -- and that charge d
-    module _ (d : ℕ) (e : d ≡ sum (net .stages) (stageCharge net x)) where
-      pub figure-room : d + tree .charged .0 < 2 ^ 63
-      figure-room = omega (arith, stages-bounded net o l 13700000 (stageCharge-small net o l x a) (net .stages) (omega arith), t .charged, charged-most 0 (omega arith))
+  -- what the stages charge, d, and what the repeaters charge, e
+  module _ (d e : ℕ) (f : d ≡ sum (net .stages) (stageCharge net x)) (g : e ≡ sum (net .repeaters) (repeaterCharge net x)) where
+    pub figure-room : d + e < 2 ^ 63
+    figure-room = omega (arith, stages-bounded net o l 13700000 (stageCharge-small net o l x a) (net .stages) (omega arith), charged-most)
 
-      pub whole-figure : d + tree .charged .0 ≡ loadFigure net x
-      whole-figure = omega (arith, t .charged, charged-whole net x o, checked-charged (ready .checked) x)
+    pub whole-figure : d + e ≡ loadFigure net x
+    whole-figure = omega (arith, checked-charged (ready .checked) x)

@@ -1,4 +1,5 @@
 pub mod Ready
 pub mod Seats
 pub mod Step
+pub mod Tables
 pub mod Tally

@@ -19,7 +19,6 @@ pub record Fields (net : Net) (x : List ℕ) (i : ℕ) (s : Segment) : Type 0 wh
 pub record Empty (r : Part) : Type 0 where
   pub weight : r .weight ≡ 0
   pub load : r .load .0 ≡ 0
-  pub charged : r .charged .0 ≡ 0
   pub delay : r .delay .0 ≡ 0
 
 -- Twice what a wire's resistance charges, and twice what the segment contributes, where the load under the segment is l.
@@ -48,19 +47,16 @@ pub record RoomBehind (s : Segment) (u : Part) : Type 0 where
 pub record Behind (s : Segment) (u r : Part) : Type 0 where
   pub weight : r .weight ≡ s .weight + u .weight
   pub load : r .load .0 ≡ s .wire .capacitance .0 + under s u
-  pub charged : r .charged .0 ≡ u .charged .0
   pub delay : r .delay .0 ≡ (s .weight + u .weight) * lag (s .wire) (under s u) + u .delay .0
 
 -- Two parts together are below 2 ^ 63.
 pub record RoomJoined (a b : Part) : Type 0 where
   pub weight : a .weight + b .weight < 2 ^ 63
   pub load : a .load .0 + b .load .0 < 2 ^ 63
-  pub charged : a .charged .0 + b .charged .0 < 2 ^ 63
   pub delay : a .delay .0 + b .delay .0 < 2 ^ 63
 
 -- r is the two parts together.
 pub record Joined (a b r : Part) : Type 0 where
   pub weight : r .weight ≡ a .weight + b .weight
   pub load : r .load .0 ≡ a .load .0 + b .load .0
-  pub charged : r .charged .0 ≡ a .charged .0 + b .charged .0
   pub delay : r .delay .0 ≡ a .delay .0 + b .delay .0

@@ -3,8 +3,10 @@ use job::Wire;
 use net::Counts;
 use quantity::Capacitance;
 use quantity::Delay;
+use quantity::Resistance;
 ghost use mathlib.Core.Path.{_≡_};
 ghost use Prim.Native.Nat.{suc, _<_, _≤_};
+ghost use lib.ListN.{length};
 ghost use Rattle.net.specs.Net.{netBy};
 ghost use Rattle.net.specs.Delay.{branchesLoad, stageLoad, delay as delayOf};
 ghost use Rattle.net.specs.Checked.{Checked};
@@ -12,7 +14,8 @@ ghost use Rattle.links.specs.Links.{siblings, LinkedBy};
 ghost use Rattle.elmore.specs.Ready.{Ready};
 ghost use Rattle.elmore.specs.Step.{Fields, Empty, lag, RoomCharged, RoomBehind, Behind, RoomJoined, Joined};
 ghost use Rattle.elmore.specs.Seats.{SeatedTo, Seated};
-ghost use Rattle.elmore.specs.Tally.{branchOf, branchesOf, Tally, Hanging, DriverOf, StageOf, StagesOf, FiguresOf};
+ghost use Rattle.elmore.specs.Tally.{branchOf, branchesOf, RepeatersCharge, RepeatedOf, WholeOf, Tally, DriverOf, StageOf, StagesOf, FiguresOf};
+ghost use Rattle.elmore.specs.Tables.{segmentAt, partAt, Put, SizedTo, PartsFrom, tables, OfSome, OfEach};
 
 // A segment with its wire at the sizing's width.
 pub struct Segment {
@@ -21,13 +24,17 @@ pub struct Segment {
     pub wire: Wire,
 }
 
-// A part of the tree: the weight of its sinks, its load as it is seen from above, what the repeaters inside it charge, and the scaled delay that
-// arises inside it.
+// A part of the tree: the weight of its sinks, its load as it is seen from above, and the scaled delay that arises inside it.
 pub struct Part {
     pub weight: u64,
     pub load: Capacitance,
-    pub charged: Capacitance,
     pub delay: Delay,
+}
+
+// What hangs at a repeater's segment, and what the repeater charges; or the branches at the source, and what all repeaters charge.
+pub struct PartAndCharge {
+    pub part: Part,
+    pub charge: Capacitance,
 }
 
 // Of a sizing its scaled delay and its load figure; of a driver, or of all stages, what is contributed to every sink behind and what is charged.
@@ -47,6 +54,48 @@ fn sized(job: &[u8], counts: Counts, sizing: &[u8], i: usize) -> Segment
         weight: job::weight(job, counts, i),
         sink: job::sink(job, counts, i),
         wire: job::wire_at(job, counts, i, width),
+    }
+}
+
+// Entry i of the table of segments: its weight, its sink, and its wire's resistance and capacitance. The tables are of numbers, because references to
+// arrays of structs are proved by hand only.
+fn segment_at(segments: &[u64; 256], i: usize) -> Segment
+    requires { ⌜ i < 64 ⌝ }
+    ensures { λ r. ⌜ r ≡ segmentAt (now (segments .entry)) i ⌝ }
+{
+    Segment {
+        weight: segments[4 * i],
+        sink: Capacitance(segments[4 * i + 1]),
+        wire: Wire {
+            resistance: Resistance(segments[4 * i + 2]),
+            capacitance: Capacitance(segments[4 * i + 3]),
+        },
+    }
+}
+
+// Makes s entry i of the table of segments.
+fn put_segment(segments: &mut [u64; 256], i: usize, s: Segment)
+    requires { ⌜ i < 64 ⌝ }
+    requires { ⌜ length (now segments) ≡ 256 ⌝ }
+    ensures { λ r. ⌜ Put segmentAt (now (segments .entry)) i s (now (segments .exit)) ⌝ }
+{
+    let wire = s.wire;
+    segments[4 * i] = s.weight;
+    segments[4 * i + 1] = s.sink.0;
+    segments[4 * i + 2] = wire.resistance.0;
+    segments[4 * i + 3] = wire.capacitance.0;
+}
+
+// The table of segments, as the sizing has them: the walk over the tree then reads no job.
+fn size_segments(job: &[u8], counts: Counts, sizing: &[u8], segments: &mut [u64; 256])
+    requires { ⌜ Ready counts (now job) (now sizing) ⌝ }
+    requires { ⌜ length (now segments) ≡ 256 ⌝ }
+    ensures { λ r. ⌜ SizedTo (netBy counts (now (job .entry))) (now (sizing .entry)) (counts .segments) (now (segments .exit)) ⌝ }
+{
+    let mut i = 0;
+    while i < counts.segments {
+        put_segment(segments, i, sized(job, counts, sizing, i));
+        i += 1;
     }
 }
 
@@ -70,11 +119,9 @@ fn behind(s: Segment, part: Part) -> Part
     let wire = s.wire;
     let under = quantity::add_capacitance(s.sink, part.load);
     let own = segment_delay(wire, under);
-    let charged = part.charged;
     Part {
         weight: weight,
         load: quantity::add_capacitance(wire.capacitance, under),
-        charged: charged,
         delay: quantity::add_delay(quantity::weighted(weight, own), part.delay),
     }
 }
@@ -87,7 +134,6 @@ fn joined(a: Part, b: Part) -> Part
     Part {
         weight: a.weight + b.weight,
         load: quantity::add_capacitance(a.load, b.load),
-        charged: quantity::add_capacitance(a.charged, b.charged),
         delay: quantity::add_delay(a.delay, b.delay),
     }
 }
@@ -99,7 +145,6 @@ fn nothing() -> Part
     Part {
         weight: 0,
         load: Capacitance(0),
-        charged: Capacitance(0),
         delay: Delay(0),
     }
 }
@@ -133,108 +178,183 @@ fn driver(job: &[u8], counts: Counts, k: usize, load: Capacitance) -> DelayAndLo
     }
 }
 
-// The branches that repeater r drives, as they hang behind it: above it only its gate is seen, and each sink below it waits for it.
-fn repeated(job: &[u8], counts: Counts, sizing: &[u8], r: usize, part: Part) -> Part
-    requires { ⌜ Ready counts (now job) (now sizing) ⌝ }
-    requires { ⌜ r < counts .repeaters ⌝ }
-    requires { ⌜ Tally (netBy counts (now job)) (now sizing) branchesOf (suc (netBy counts (now job) .site r)) part ⌝ }
-    ensures { λ h. ⌜ Hanging (netBy counts (now (job .entry))) (now (sizing .entry)) (netBy counts (now (job .entry)) .site r) h ⌝ }
+// Entry r of the table of what hangs at the repeaters' segments: the part's weight, load and delay.
+fn part_at(parts: &[u64; 24], r: usize) -> Part
+    requires { ⌜ r < 8 ⌝ }
+    ensures { λ p. ⌜ p ≡ partAt (now (parts .entry)) r ⌝ }
 {
-    let size = job::index_at(sizing, counts.stages + counts.segments + r);
-    let seen = job::gate(job, counts, size);
-    let behind = part.load;
-    let one = driver(job, counts, size, behind);
     Part {
-        weight: part.weight,
-        load: seen,
-        charged: quantity::add_capacitance(part.charged, one.load),
-        delay: quantity::add_delay(quantity::weighted(2 * part.weight, one.delay), part.delay),
+        weight: parts[3 * r],
+        load: Capacitance(parts[3 * r + 1]),
+        delay: Delay(parts[3 * r + 2]),
     }
 }
 
-// What hangs at segment i's far end, where its branches are counted up: the branches, behind the repeater if one sits there.
-fn hanging(
-    job: &[u8],
-    counts: Counts,
-    seats: &[u8; 64],
-    sizing: &[u8],
-    i: usize,
-    part: Part,
-) -> Part
-    requires { ⌜ Ready counts (now job) (now sizing) ⌝ }
-    requires { ⌜ Seated (netBy counts (now job)) (now seats) ⌝ }
-    requires { ⌜ i < counts .segments ⌝ }
-    requires { ⌜ Tally (netBy counts (now job)) (now sizing) branchesOf (suc i) part ⌝ }
-    ensures { λ r. ⌜ Hanging (netBy counts (now (job .entry))) (now (sizing .entry)) i r ⌝ }
+// Makes p entry r of that table.
+fn put_part(parts: &mut [u64; 24], r: usize, p: Part)
+    requires { ⌜ r < 8 ⌝ }
+    requires { ⌜ length (now parts) ≡ 24 ⌝ }
+    ensures { λ q. ⌜ Put partAt (now (parts .entry)) r p (now (parts .exit)) ⌝ }
 {
-    let r = job::index(seats[i]);
-    if r < counts.repeaters {
-        return repeated(job, counts, sizing, r, part);
-    }
-    part
+    parts[3 * r] = p.weight;
+    parts[3 * r + 1] = p.load.0;
+    parts[3 * r + 2] = p.delay.0;
 }
 
-// Segment i and all below it. Where nothing is below it no call is made, because half of a tree's segments are such.
+// Segment i and all below it. Where nothing is below it no call is made, because half of a tree's segments are such; where a repeater sits at its far
+// end, what hangs there is in the table, and the branches behind it are not walked. A call passes tables and neither job nor sizing, because each
+// segment has one: what it counts up is that of each job and sizing with these tables, and there is one.
 fn branch(
-    job: &[u8],
-    counts: Counts,
-    first: &[usize],
-    next: &[usize],
+    n: usize,
+    segments: &[u64; 256],
+    first: &[usize; 65],
+    next: &[usize; 64],
     seats: &[u8; 64],
-    sizing: &[u8],
+    parts: &[u64; 24],
     i: usize,
 ) -> Part
-    requires { ⌜ Ready counts (now job) (now sizing) ⌝ }
-    requires { ⌜ LinkedBy counts (now job) (now first) (now next) ⌝ }
-    requires { ⌜ Seated (netBy counts (now job)) (now seats) ⌝ }
-    requires { ⌜ i < counts .segments ⌝ }
-    ensures { λ r. ⌜ Tally (netBy counts (now (job .entry))) (now (sizing .entry)) branchOf i r ⌝ }
+    requires { ⌜ OfSome (tables n (now segments) (now first) (now next) (now seats) (now parts)) i ⌝ }
+    requires { ⌜ i < n ⌝ }
+    ensures { λ r. ⌜ OfEach (tables n (now (segments .entry)) (now (first .entry)) (now (next .entry)) (now (seats .entry)) (now (parts .entry)))
+        branchOf i r ⌝ }
 {
-    let s = sized(job, counts, sizing, i);
+    let s = segment_at(segments, i);
     let child = first[i + 1];
-    if child == counts.segments {
+    if child == n {
         return behind(s, nothing());
     }
-    let below = branches(job, counts, first, next, seats, sizing, child);
-    behind(s, hanging(job, counts, seats, sizing, i, below))
+    let r = job::index(seats[i]);
+    if r < 8 {
+        return behind(s, part_at(parts, r));
+    }
+    behind(s, branches(n, segments, first, next, seats, parts, child))
 }
 
 // Segment j and its siblings after it, each with all below it; past the last segment there is none.
 fn branches(
-    job: &[u8],
-    counts: Counts,
-    first: &[usize],
-    next: &[usize],
+    n: usize,
+    segments: &[u64; 256],
+    first: &[usize; 65],
+    next: &[usize; 64],
     seats: &[u8; 64],
-    sizing: &[u8],
+    parts: &[u64; 24],
     j: usize,
 ) -> Part
-    requires { ⌜ Ready counts (now job) (now sizing) ⌝ }
-    requires { ⌜ LinkedBy counts (now job) (now first) (now next) ⌝ }
-    requires { ⌜ Seated (netBy counts (now job)) (now seats) ⌝ }
-    requires { ⌜ j ≤ counts .segments ⌝ }
-    ensures { λ r. ⌜ Tally (netBy counts (now (job .entry))) (now (sizing .entry)) siblings j r ⌝ }
+    requires { ⌜ OfSome (tables n (now segments) (now first) (now next) (now seats) (now parts)) j ⌝ }
+    requires { ⌜ j ≤ n ⌝ }
+    ensures { λ r. ⌜ OfEach (tables n (now (segments .entry)) (now (first .entry)) (now (next .entry)) (now (seats .entry)) (now (parts .entry)))
+        siblings j r ⌝ }
 {
     let mut sum = nothing();
     let mut i = j;
-    while i < counts.segments {
-        sum = joined(sum, branch(job, counts, first, next, seats, sizing, i));
+    while i < n {
+        sum = joined(sum, branch(n, segments, first, next, seats, parts, i));
         i = next[i];
     }
     sum
 }
 
-// The whole tree: the branches at the source.
-fn whole(job: &[u8], counts: Counts, first: &[usize], next: &[usize], sizing: &[u8]) -> Part
+// The branches that repeater r drives, as they hang behind it: above it only its gate is seen, and each sink below it waits for it. And what it
+// charges.
+fn repeated(job: &[u8], counts: Counts, sizing: &[u8], r: usize, part: Part) -> PartAndCharge
+    requires { ⌜ Ready counts (now job) (now sizing) ⌝ }
+    requires { ⌜ r < counts .repeaters ⌝ }
+    requires { ⌜ Tally (netBy counts (now job)) (now sizing) branchesOf (suc (netBy counts (now job) .site r)) part ⌝ }
+    ensures { λ h. ⌜ RepeatedOf (netBy counts (now (job .entry))) (now (sizing .entry)) r h ⌝ }
+{
+    let size = job::index_at(sizing, counts.stages + counts.segments + r);
+    let seen = job::gate(job, counts, size);
+    let behind = part.load;
+    let one = driver(job, counts, size, behind);
+    let charge = one.load;
+    let hangs = Part {
+        weight: part.weight,
+        load: seen,
+        delay: quantity::add_delay(quantity::weighted(2 * part.weight, one.delay), part.delay),
+    };
+    PartAndCharge {
+        part: hangs,
+        charge: charge,
+    }
+}
+
+// What hangs at each repeater's segment, and what all repeaters charge. From the last repeater to the first: those behind it have larger numbers.
+fn repeat_all(
+    job: &[u8],
+    counts: Counts,
+    sizing: &[u8],
+    segments: &[u64; 256],
+    first: &[usize; 65],
+    next: &[usize; 64],
+    seats: &[u8; 64],
+    parts: &mut [u64; 24],
+) -> Capacitance
+    requires { ⌜ Ready counts (now job) (now sizing) ⌝ }
+    requires { ⌜ SizedTo (netBy counts (now job)) (now sizing) (counts .segments) (now segments) ⌝ }
+    requires { ⌜ LinkedBy counts (now job) (now first) (now next) ⌝ }
+    requires { ⌜ Seated (netBy counts (now job)) (now seats) ⌝ }
+    requires { ⌜ length (now parts) ≡ 24 ⌝ }
+    ensures parts { λ r. ⌜ PartsFrom (netBy counts (now (job .entry))) (now (sizing .entry)) 0 (now (parts .exit)) ⌝ }
+    ensures charge { λ r. ⌜ RepeatersCharge (netBy counts (now (job .entry))) (now (sizing .entry)) r ⌝ }
+{
+    let n = counts.segments;
+    let mut all = Capacitance(0);
+    let mut r = counts.repeaters;
+    while r > 0 {
+        r -= 1;
+        let i = job::site(job, counts, r);
+        let top = first[i + 1];
+        let below = branches(n, segments, first, next, seats, parts, top);
+        let one = repeated(job, counts, sizing, r, below);
+        let hangs = one.part;
+        put_part(parts, r, hangs);
+        all = quantity::add_capacitance(all, one.charge);
+    }
+    all
+}
+
+// The whole tree: the branches at the source, and what all repeaters charge.
+fn whole(
+    job: &[u8],
+    counts: Counts,
+    first: &[usize; 65],
+    next: &[usize; 64],
+    sizing: &[u8],
+) -> PartAndCharge
     requires { ⌜ Ready counts (now job) (now sizing) ⌝ }
     requires { ⌜ LinkedBy counts (now job) (now first) (now next) ⌝ }
-    ensures { λ r. ⌜ Tally (netBy counts (now (job .entry))) (now (sizing .entry)) branchesOf 0 r ⌝ }
+    ensures { λ r. ⌜ WholeOf (netBy counts (now (job .entry))) (now (sizing .entry)) r ⌝ }
 {
+    let mut segments = [0u64; 256];
+    size_segments(job, counts, sizing, &mut segments);
     // by segment the repeater at its far end; 8 where there is none, because there are at most eight
     let mut seats = [8u8; 64];
     seat(job, counts, &mut seats);
+    let mut parts = [0u64; 24];
+    let charge = repeat_all(
+        job,
+        counts,
+        sizing,
+        &segments,
+        first,
+        next,
+        &seats,
+        &mut parts,
+    );
     let root = first[0];
-    branches(job, counts, first, next, &seats, sizing, root)
+    let source = branches(
+        counts.segments,
+        &segments,
+        first,
+        next,
+        &seats,
+        &parts,
+        root,
+    );
+    PartAndCharge {
+        part: source,
+        charge: charge,
+    }
 }
 
 // What stage s drives, where the load of the whole tree is known.
@@ -286,21 +406,28 @@ fn stages(job: &[u8], counts: Counts, sizing: &[u8], tree: Capacitance) -> Delay
 
 // The scaled delay and the load figure, where the tree is counted up. The figure is what the stages and the repeaters charge: each gate but the
 // first, and all of the tree, is driven by one.
-fn driven(job: &[u8], counts: Counts, sizing: &[u8], tree: Part) -> DelayAndLoad
+fn driven(job: &[u8], counts: Counts, sizing: &[u8], tree: PartAndCharge) -> DelayAndLoad
     requires { ⌜ Ready counts (now job) (now sizing) ⌝ }
-    requires { ⌜ Tally (netBy counts (now job)) (now sizing) branchesOf 0 tree ⌝ }
+    requires { ⌜ WholeOf (netBy counts (now job)) (now sizing) tree ⌝ }
     ensures { λ r. ⌜ FiguresOf (netBy counts (now (job .entry))) (now (sizing .entry)) r ⌝ }
 {
-    let chain = stages(job, counts, sizing, tree.load);
+    let source = tree.part;
+    let chain = stages(job, counts, sizing, source.load);
     let before = quantity::weighted(2, chain.delay);
     DelayAndLoad {
-        delay: quantity::add_delay(quantity::weighted(tree.weight, before), tree.delay),
-        load: quantity::add_capacitance(chain.load, tree.charged),
+        delay: quantity::add_delay(quantity::weighted(source.weight, before), source.delay),
+        load: quantity::add_capacitance(chain.load, tree.charge),
     }
 }
 
 // The scaled delay of a sizing.
-pub fn delay(job: &[u8], counts: Counts, first: &[usize], next: &[usize], sizing: &[u8]) -> Delay
+pub fn delay(
+    job: &[u8],
+    counts: Counts,
+    first: &[usize; 65],
+    next: &[usize; 64],
+    sizing: &[u8],
+) -> Delay
     requires { ⌜ Ready counts (now job) (now sizing) ⌝ }
     requires { ⌜ LinkedBy counts (now job) (now first) (now next) ⌝ }
     ensures { λ r. ⌜ r .0 ≡ delayOf (netBy counts (now (job .entry))) (now (sizing .entry)) ⌝ }
@@ -312,8 +439,8 @@ pub fn delay(job: &[u8], counts: Counts, first: &[usize], next: &[usize], sizing
 pub fn figures(
     job: &[u8],
     counts: Counts,
-    first: &[usize],
-    next: &[usize],
+    first: &[usize; 65],
+    next: &[usize; 64],
     sizing: &[u8],
 ) -> DelayAndLoad
     requires { ⌜ Ready counts (now job) (now sizing) ⌝ }

@@ -10,11 +10,11 @@ use lib.Dec.{eqb}
 use Rattle.lattice.specs.Lists.{at, sum}
 use Rattle.net.specs.Net.{Net}
 use Rattle.net.specs.Delay.{repeated, atRepeater, capacitance, ownLoad, repeaterSize, under, branchLoad, branchesLoad, loadUnder, stageLoad, gatesLoad, outputsLoad, repeatersLoad, loadFigure}
-use Rattle.net.specs.Segments.{stageCharge, repeaterCharge, charged}
+use Rattle.net.specs.Segments.{stageCharge, repeaterCharge}
 use Rattle.net.specs.Checked.{Ordered}
 use Rattle.net.proofs.Sum.{sum-suc, sum-same, sum-add, sum-zero, sum-sited}
 use Rattle.net.proofs.Branches.{branches-sum}
-use Rattle.net.proofs.Exchange.{branches-whole, repeaters-whole}
+use Rattle.net.proofs.Exchange.{repeaters-whole}
 use Rattle.net.proofs.Order.{repeated-one, repeated-none}
 use Rattle.net.proofs.Weights.{repeater-one}
 
@@ -112,7 +112,3 @@ module _ (net : Net) (x : List ℕ) where
           sum-add (net .repeaters) (λ r. net .output (repeaterSize net x r)) (λ r. branchesLoad net x (suc (net .site r))),
           sum-add (net .repeaters) (λ r. net .gate (repeaterSize net x r)) (λ r. net .output (repeaterSize net x r)),
         )
-
-    -- what the repeaters charge, by the branches at the source, as the code adds it up
-    pub charged-whole : charged net x 0 ≡ sum (net .repeaters) (repeaterCharge net x)
-    charged-whole = branches-whole net (o .parents) (atRepeater net (repeaterCharge net x)) ∙ repeaters-whole net (o .parents) (o .sites) (repeaterCharge net x)

@@ -46,7 +46,3 @@ module _ (net : Net) (x : List ℕ) where
   -- What repeater r charges: its own output and the load of the branches behind it.
   abbrev pub repeaterCharge : ℕ → ℕ
   repeaterCharge r = net .output (repeaterSize net x r) + branchesLoad net x (suc (net .site r))
-
-  -- What the repeaters in the branches at the node q charge.
-  abbrev pub charged : ℕ → ℕ
-  charged q = branches net (atRepeater net repeaterCharge) q

@@ -1,5 +1,5 @@
 -- `elmore::behind` meets its contract: what it asks gives each sum and product its room.
-use mathlib.Core.Path.{_≡_, refl, ap, _∙_}
+use mathlib.Core.Path.{_≡_, ap, _∙_}
 use native.Mathlib.Omega.{arith}
 use Rattle.elmore.specs.Step.{lag, under}
 use borrow.Author.Needs.{needs}
@@ -22,24 +22,24 @@ add-capacitance-requires-2 c κs = search needs
 
 weighted-requires : tie.Need-weighted-requires
 weighted-requires c κs =
-    let b = c .before .before .before .before .before .before .before in
-    let e : c .before .before .segment-delay .result .0 ≡ lag (b .args .s .wire) (under (b .args .s) (b .args .part)) =
-    c .before .before .segment-delay .ensures ∙ ap (lag (b .args .s .wire)) (c .before .before .before .add-capacitance .ensures .0) in
+    let b = c .before .before .before .before .before .before in
+    let e : c .before .segment-delay .result .0 ≡ lag (b .args .s .wire) (under (b .args .s) (b .args .part)) =
+    c .before .segment-delay .ensures ∙ ap (lag (b .args .s .wire)) (c .before .before .add-capacitance .ensures .0) in
     rw e (omega (arith, b .pre .delay))
 
 add-delay-requires : tie.Need-add-delay-requires
 add-delay-requires c κs =
-    let b = c .before .before .before .before .before .before .before .before in
-    let e : c .before .before .before .segment-delay .result .0 ≡ lag (b .args .s .wire) (under (b .args .s) (b .args .part)) =
-    c .before .before .before .segment-delay .ensures ∙ ap (lag (b .args .s .wire)) (c .before .before .before .before .add-capacitance .ensures .0) in
+    let b = c .before .before .before .before .before .before .before in
+    let e : c .before .before .segment-delay .result .0 ≡ lag (b .args .s .wire) (under (b .args .s) (b .args .part)) =
+    c .before .before .segment-delay .ensures ∙ ap (lag (b .args .s .wire)) (c .before .before .before .add-capacitance .ensures .0) in
     omega (arith, rw e at (c .weighted .ensures .0), b .pre .delay)
 
 returns : tie.Need-returns
 returns c =
-    let b = c .before .before .before .before .before .before .before .before .before in
-    let e : c .before .before .before .before .segment-delay .result .0 ≡ lag (b .args .s .wire) (under (b .args .s) (b .args .part)) =
-    c .before .before .before .before .segment-delay .ensures ∙ ap (lag (b .args .s .wire)) (c .before .before .before .before .before .add-capacitance .ensures .0) in
-    record { weight = omega arith; load = omega arith; charged = refl; delay = omega (arith, rw e at (c .before .weighted .ensures .0)) }
+    let b = c .before .before .before .before .before .before .before .before in
+    let e : c .before .before .before .segment-delay .result .0 ≡ lag (b .args .s .wire) (under (b .args .s) (b .args .part)) =
+    c .before .before .before .segment-delay .ensures ∙ ap (lag (b .args .s .wire)) (c .before .before .before .before .add-capacitance .ensures .0) in
+    record { weight = omega arith; load = omega arith; delay = omega (arith, rw e at (c .before .weighted .ensures .0)) }
 
 pub behind-spec : {M : Type 1} → statement M
 behind-spec =

@@ -13,40 +13,40 @@ stages-requires c κs = search needs
 
 weighted-requires : tie.Need-weighted-requires
 weighted-requires c κs =
-    let r = c .before .before .before .pre .0 in
+    let r = c .before .before .before .before .pre .0 in
     let k = r .checked in
     omega (arith, c .stages .ensures .delay, stagesDelay-small _ (ordered k) (limited k) _ (r .inRanges))
 
 weighted-requires-2 : tie.Need-weighted-requires-2
 weighted-requires-2 c κs =
-    let b = c .before .before .before .before in
-    rw (c .weighted .ensures .0) (whole-driven (b .pre .0) _ (b .pre .1) _ (c .before .stages .ensures .delay))
+    let b = c .before .before .before .before .before in
+    rw (c .weighted .ensures .0) (whole-driven (b .pre .0) _ (b .pre .1 .source) _ (c .before .stages .ensures .delay))
 
 add-delay-requires : tie.Need-add-delay-requires
 add-delay-requires c κs =
-    let b = c .before .before .before .before .before in
+    let b = c .before .before .before .before .before .before in
     let r = b .pre .0 in
     let k = r .checked in
     omega (
       arith,
-      whole-delay r _ (b .pre .1) _ (c .before .before .stages .ensures .delay),
+      whole-delay r _ (b .pre .1 .source) _ (c .before .before .stages .ensures .delay),
       delay-fits _ (ordered k) (limited k) _ (r .inRanges),
       rw (c .before .weighted .ensures .0) at (c .weighted2 .ensures .0),
     )
 
 add-capacitance-requires : tie.Need-add-capacitance-requires
 add-capacitance-requires c κs =
-    let b = c .before .before .before .before .before .before in
-    omega (arith, figure-room (b .pre .0) _ (b .pre .1) _ (c .before .before .before .stages .ensures .load))
+    let b = c .before .before .before .before .before .before .before in
+    omega (arith, figure-room (b .pre .0) _ _ (c .before .before .before .stages .ensures .load) (b .pre .1 .charge .all))
 
 returns : tie.Need-returns
 returns c =
-    let b = c .before .before .before .before .before .before .before in
+    let b = c .before .before .before .before .before .before .before .before in
     let chain = c .before .before .before .before .stages .ensures in
-    let whole = whole-delay (b .pre .0) _ (b .pre .1) _ (chain .delay) in
+    let whole = whole-delay (b .pre .0) _ (b .pre .1 .source) _ (chain .delay) in
     record {
       delay = omega (arith, whole, c .before .add-delay .ensures .0, rw (c .before .before .before .weighted .ensures .0) at (c .before .before .weighted2 .ensures .0));
-      load = c .add-capacitance .ensures .0 ∙ whole-figure (b .pre .0) _ (b .pre .1) _ (chain .load);
+      load = c .add-capacitance .ensures .0 ∙ whole-figure (b .pre .0) _ _ (chain .load) (b .pre .1 .charge .all);
     }
 
 pub driven-spec : {M : Type 1} → statement M

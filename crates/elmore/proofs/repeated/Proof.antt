@@ -3,7 +3,7 @@ use mathlib.Core.Path.{refl}
 use Prim.Native.Nat.{_*_}
 use native.Mathlib.Omega.{arith}
 use Rattle.net.proofs.Questions.{repeater-held}
-use Rattle.elmore.proofs.Repeating.{load-small, weight-small, charged-room, delay-room, repeated-hanging}
+use Rattle.elmore.proofs.Repeating.{load-small, weight-small, charge-is, delay-room, repeated-hanging}
 use borrow.Author.Needs.{needs}
 use Rattle.elmore.proofs.repeated.Statement.{statement}
 use Rattle.elmore.proofs.repeated.Tie as tie
@@ -31,11 +31,6 @@ driver-requires c κs =
       (omega (arith, repeater-held (r .checked) (r .inRanges) (b .args .r) (b .pre .1 .0)), load-small r (b .args .r) (b .pre .1 .0) _ (b .pre .1 .1)),
     )
 
-add-capacitance-requires : tie.Need-add-capacitance-requires
-add-capacitance-requires c κs =
-    let b = c .before .before .before .before .before .before .before in
-    omega (arith, charged-room (b .pre .0) (b .args .r) (b .pre .1 .0) _ (b .pre .1 .1) _ (c .before .before .before .index-at .ensures .0) _ (c .driver .ensures))
-
 mul-weighted : tie.Need-mul-weighted
 mul-weighted c =
     let b = c .before .before .before .before .before .before .before .before .before in
@@ -59,9 +54,13 @@ returns : tie.Need-returns
 returns c =
     let b = c .before .before .before .before .before .before .before .before .before .before .before in
     let size = c .before .before .before .before .before .before .before .index-at .ensures .0 in
-    repeated-hanging (b .pre .0) (b .args .r) (b .pre .1 .0) _ (b .pre .1 .1) _ size _ (c .before .before .before .before .driver .ensures)
-    _ refl (c .before .before .before .before .before .before .gate .ensures) (c .before .before .before .add-capacitance .ensures .0)
-    (omega (arith, c .add-delay .ensures .0, c .before .weighted .ensures .0))
+    let one = c .before .before .before .before .driver .ensures in
+    let gate = c .before .before .before .before .before .before .gate .ensures in
+    record {
+      part = repeated-hanging (b .pre .0) (b .args .r) (b .pre .1 .0) _ (b .pre .1 .1) _ size _ one _ refl gate
+          (omega (arith, c .add-delay .ensures .0, c .before .weighted .ensures .0));
+      charge = charge-is (b .pre .0) (b .args .r) (b .pre .1 .0) _ (b .pre .1 .1) _ size _ one;
+    }
 
 pub repeated-spec : {M : Type 1} → statement M
 repeated-spec =
@@ -72,7 +71,6 @@ repeated-spec =
     index-at-requires
     gate-requires
     driver-requires
-    add-capacitance-requires
     mul-weighted
     weighted-requires
     add-delay-requires

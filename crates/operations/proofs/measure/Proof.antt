@@ -37,12 +37,6 @@ returns-2 c =
     let z : k .result .number ≡ 0 = omega arith in
     (measure-sizing (b .args .job .now) (b .args .sizing .now) (k .ensures .passed z) (sym (k .ensures .number) ∙ z) (c .before .sizing-number .result) (c .before .sizing-number .ensures) (λ e. omega arith), omega arith)
 
-slice-aggregate-figures : tie.Need-slice-aggregate-figures
-slice-aggregate-figures c = search needs
-
-slice-aggregate-figures-2 : tie.Need-slice-aggregate-figures-2
-slice-aggregate-figures-2 c = search needs
-
 figures-requires : tie.Need-figures-requires
 figures-requires c κs =
     let b = c .before .before .before .before .before .before .before .before .before .before .before .before .before .before in
@@ -74,7 +68,5 @@ measure-spec =
     returns
     sizing-number-requires
     returns-2
-    slice-aggregate-figures
-    slice-aggregate-figures-2
     figures-requires
     returns-3)

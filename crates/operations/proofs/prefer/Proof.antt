@@ -63,12 +63,6 @@ add-places-2 c =
     let z : k .result .number ≡ 0 = omega arith in
     omega (arith, k .ensures .passed z .fewStages, k .ensures .passed z .fewSegments, k .ensures .passed z .fewRepeaters)
 
-slice-aggregate-delay : tie.Need-slice-aggregate-delay
-slice-aggregate-delay c = search needs
-
-slice-aggregate-delay-2 : tie.Need-slice-aggregate-delay-2
-slice-aggregate-delay-2 c = search needs
-
 delay-requires : tie.Need-delay-requires
 delay-requires c κs =
     let b = c .before .before .before .before .before .before .before .before .before .before .before .before .before .before .before .before .before .before .before in
@@ -77,12 +71,6 @@ delay-requires c κs =
     let n = c .before .before .before .before .before .before .before .sizing-number in
     let u : n .result ≡ 0 = omega (arith, n .ensures) in
     (record { checked = k .ensures .passed z; inRanges = number-ranges (netBy (k .result .counts) (b .args .job .now)) (b .args .x .now) (sym (n .ensures) ∙ u) }, k .ensures .linked z)
-
-slice-aggregate-delay-3 : tie.Need-slice-aggregate-delay-3
-slice-aggregate-delay-3 c = search needs
-
-slice-aggregate-delay-4 : tie.Need-slice-aggregate-delay-4
-slice-aggregate-delay-4 c = search needs
 
 delay-requires-2 : tie.Need-delay-requires-2
 delay-requires-2 c κs =
@@ -133,11 +121,7 @@ prefer-spec =
     returns-3
     add-places
     add-places-2
-    slice-aggregate-delay
-    slice-aggregate-delay-2
     delay-requires
-    slice-aggregate-delay-3
-    slice-aggregate-delay-4
     delay-requires-2
     returns-4
     returns-5)

@@ -1,0 +1,59 @@
+-- `elmore::put_part` meets its contract: a part is three numbers, each at its place.
+use native.Mathlib.Omega.{arith}
+use Rattle.elmore.proofs.Entries.{put-part}
+use borrow.Author.Needs.{needs}
+use Rattle.elmore.proofs.put_part.Statement.{statement}
+use Rattle.elmore.proofs.put_part.Tie as tie
+
+mul-parts : tie.Need-mul-parts
+mul-parts c = search needs
+
+mul-parts-2 : tie.Need-mul-parts-2
+mul-parts-2 c = search needs
+
+element-write-parts : tie.Need-element-write-parts
+element-write-parts c = search needs
+
+mul-parts-3 : tie.Need-mul-parts-3
+mul-parts-3 c = search needs
+
+add-parts : tie.Need-add-parts
+add-parts c = search needs
+
+mul-parts-4 : tie.Need-mul-parts-4
+mul-parts-4 c = search needs
+
+element-write-parts-2 : tie.Need-element-write-parts-2
+element-write-parts-2 c = search needs
+
+mul-parts-5 : tie.Need-mul-parts-5
+mul-parts-5 c = search needs
+
+add-parts-2 : tie.Need-add-parts-2
+add-parts-2 c = search needs
+
+mul-parts-6 : tie.Need-mul-parts-6
+mul-parts-6 c = search needs
+
+element-write-parts-3 : tie.Need-element-write-parts-3
+element-write-parts-3 c = search needs
+
+returns : tie.Need-returns
+returns c = put-part (c .args .parts .now) (c .args .r) (c .args .p) (omega (arith, c .pre .0, c .pre .1))
+
+pub put-part-spec : {M : Type 1} → statement M
+put-part-spec =
+    tie.close
+    (tie.spec
+    mul-parts
+    mul-parts-2
+    element-write-parts
+    mul-parts-3
+    add-parts
+    mul-parts-4
+    element-write-parts-2
+    mul-parts-5
+    add-parts-2
+    mul-parts-6
+    element-write-parts-3
+    returns)

@@ -1,0 +1,75 @@
+-- The tables that the walk over the tree reads in place of the job: by segment what it has at its width, by repeater what hangs at its segment.
+use mathlib.Core.Path.{_≡_}
+use mathlib.Core.List.{List}
+use Prim.Native.Nat.{ℕ, _+_, _*_, _≤_, _<_}
+use lib.ListN.{length}
+use Rattle.lattice.specs.Lists.{at}
+use Rattle.net.specs.declared.Counts.{Counts}
+use Rattle.net.specs.Net.{Net, netBy}
+use Rattle.links.specs.Links.{LinkedBy}
+use Rattle.elmore.specs.declared.Segment.{Segment}
+use Rattle.elmore.specs.declared.Part.{Part}
+use Rattle.elmore.specs.Ready.{Ready}
+use Rattle.elmore.specs.Step.{Fields}
+use Rattle.elmore.specs.Seats.{Seated}
+use Rattle.elmore.specs.Tally.{Tally, Hanging}
+
+-- Entry i of a table of segments, four numbers for each, and entry r of a table of parts, three for each.
+abbrev pub segmentAt : List ℕ → ℕ → Segment
+segmentAt t i =
+    record {
+      weight = at t (4 * i);
+      sink = record { 0 = at t (4 * i + 1) };
+      wire = record { resistance = record { 0 = at t (4 * i + 2) }; capacitance = record { 0 = at t (4 * i + 3) } };
+    }
+
+abbrev pub partAt : List ℕ → ℕ → Part
+partAt t r = record { weight = at t (3 * r); load = record { 0 = at t (3 * r + 1) }; delay = record { 0 = at t (3 * r + 2) } }
+
+-- The table u is t with a as entry i, where `entry` reads the tables.
+pub record Put {A : Type 0} (entry : List ℕ → ℕ → A) (t : List ℕ) (i : ℕ) (a : A) (u : List ℕ) : Type 0 where
+  pub long : length u ≡ length t
+  pub here : entry u i ≡ a
+  pub others : (k : ℕ) → (k ≡ i → ⊥) → entry u k ≡ entry t k
+
+-- The table has the first n segments, each at its width.
+pub record SizedTo (net : Net) (x : List ℕ) (n : ℕ) (segments : List ℕ) : Type 0 where
+  pub long : length segments ≡ 256
+  pub held : (i : ℕ) → i < n → Fields net x i (segmentAt segments i)
+
+-- The table has what hangs at the segments of the repeaters from r on.
+pub record PartsFrom (net : Net) (x : List ℕ) (r : ℕ) (parts : List ℕ) : Type 0 where
+  pub long : length parts ≡ 24
+  pub held : (k : ℕ) → r ≤ k → k < net .repeaters → Hanging net x (net .site k) (partAt parts k)
+
+-- What the walk reads: the number of segments, and the tables.
+pub record Tables : Type 0 where
+  pub n : ℕ
+  pub segments : List ℕ
+  pub first : List ℕ
+  pub next : List ℕ
+  pub seats : List ℕ
+  pub parts : List ℕ
+
+abbrev pub tables : (n : ℕ) (segments first next seats parts : List ℕ) → Tables
+tables n segments first next seats parts = record { n = n; segments = segments; first = first; next = next; seats = seats; parts = parts }
+
+-- The tables are those of a job and a sizing, as far as a walk over segments from j on reads them: of the parts it needs those that hang there.
+pub record TablesOf (t : Tables) (c : Counts) (job x : List ℕ) (j : ℕ) : Type 0 where
+  pub ready : Ready c job x
+  pub all : t .n ≡ c .segments
+  pub sized : SizedTo (netBy c job) x (c .segments) (t .segments)
+  pub linked : LinkedBy c job (t .first) (t .next)
+  pub seated : Seated (netBy c job) (t .seats)
+  pub parted : (r : ℕ) → r < c .repeaters → j ≤ netBy c job .site r → Hanging (netBy c job) x (netBy c job .site r) (partAt (t .parts) r)
+
+-- Some job and sizing have these tables.
+pub record OfSome (t : Tables) (j : ℕ) : Type 0 where
+  pub counts : Counts
+  pub job : List ℕ
+  pub sizing : List ℕ
+  pub held : TablesOf t counts job sizing j
+
+-- r is what is counted up over a part of the tree, at j, of each job and sizing that have these tables: the walk reads no more of them.
+pub record OfEach (t : Tables) (part : Net → (ℕ → ℕ → ℕ) → ℕ → ℕ) (j : ℕ) (r : Part) : Type 0 where
+  pub tally : (c : Counts) (job x : List ℕ) → TablesOf t c job x j → Tally (netBy c job) x part j r
