@@ -37,16 +37,7 @@ fn refine_in_order(
     weights::weigh(job, counts, order, hangs, &mut weights);
     // loads, by position
     let mut driven = [0u64; 76];
-    let lent = place::drive_and_add(
-        job,
-        counts,
-        order,
-        hangs,
-        &weights,
-        held,
-        held,
-        &mut driven,
-    );
+    let lent = place::drive_and_add(job, counts, order, hangs, &weights, held, held, &mut driven);
     let before = place::upstream_on_path(job, counts, order, hangs, &weights, held, t);
     let p = order[t];
     let weight = weights[t];

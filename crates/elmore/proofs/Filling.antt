@@ -18,7 +18,7 @@ use Rattle.links.proofs.Siblings.{first-behind}
 use Rattle.elmore.specs.declared.Segment.{Segment}
 use Rattle.elmore.specs.declared.Part.{Part}
 use Rattle.elmore.specs.declared.PartAndCharge.{PartAndCharge}
-use Rattle.elmore.specs.Ready.{Ready}
+use Rattle.stages.specs.Ready.{Ready}
 use Rattle.elmore.specs.Seats.{Seated}
 use Rattle.elmore.specs.Step.{Fields}
 use Rattle.elmore.specs.Tally.{branchesOf, Tally, Hanging, RepeatedOf}

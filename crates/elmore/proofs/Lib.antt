@@ -1,4 +1,3 @@
-pub mod Drives
 pub mod Entries
 pub mod Filling
 pub mod Repeating

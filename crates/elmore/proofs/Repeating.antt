@@ -15,9 +15,10 @@ use Rattle.net.proofs.Weights.{repeater-one}
 use Rattle.net.proofs.Questions.{ordered, limited}
 use Rattle.net.proofs.Bound.{branches-bounded, branchesLoad-small, repeaterDelay-small}
 use Rattle.elmore.specs.declared.Part.{Part}
-use Rattle.elmore.specs.declared.DelayAndLoad.{DelayAndLoad}
-use Rattle.elmore.specs.Ready.{Ready}
-use Rattle.elmore.specs.Tally.{branchesOf, Tally, Hanging, DriverOf}
+use Rattle.stages.specs.declared.DelayAndLoad.{DelayAndLoad}
+use Rattle.stages.specs.Ready.{Ready}
+use Rattle.elmore.specs.Tally.{branchesOf, Tally, Hanging}
+use Rattle.stages.specs.Charges.{DriverOf}
 use Rattle.elmore.proofs.Tallies.{inside-small}
 
 -- at a repeater's segment a repeater sits

@@ -24,7 +24,7 @@ use Rattle.links.specs.Links.{First, siblings}
 use Rattle.links.proofs.Siblings.{siblings-none, siblings-branches, siblings-step}
 use Rattle.elmore.specs.declared.Segment.{Segment}
 use Rattle.elmore.specs.declared.Part.{Part}
-use Rattle.elmore.specs.Ready.{Ready}
+use Rattle.stages.specs.Ready.{Ready}
 use Rattle.elmore.specs.Step.{Fields, Empty, lag, under, RoomBehind, Behind, RoomJoined, Joined}
 use Rattle.elmore.specs.Tally.{branchesOf, branchOf, weightWith, loadWith, delayWith, Tally, Hanging}
 

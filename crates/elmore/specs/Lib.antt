@@ -1,4 +1,3 @@
-pub mod Ready
 pub mod Seats
 pub mod Step
 pub mod Tables

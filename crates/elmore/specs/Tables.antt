@@ -9,7 +9,7 @@ use Rattle.net.specs.Net.{Net, netBy}
 use Rattle.links.specs.Links.{LinkedBy}
 use Rattle.elmore.specs.declared.Segment.{Segment}
 use Rattle.elmore.specs.declared.Part.{Part}
-use Rattle.elmore.specs.Ready.{Ready}
+use Rattle.stages.specs.Ready.{Ready}
 use Rattle.elmore.specs.Step.{Fields}
 use Rattle.elmore.specs.Seats.{Seated}
 use Rattle.elmore.specs.Tally.{Tally, Hanging}

@@ -1,15 +1,16 @@
--- What is counted up over a part of the tree, over the stages, and of a whole sizing.
+-- What is counted up over a part of the tree, and of a whole sizing.
 use mathlib.Core.Path.{_≡_}
 use mathlib.Core.List.{List}
-use Prim.Native.Nat.{ℕ, suc, _+_, _*_}
+use Prim.Native.Nat.{ℕ, suc, _+_}
 use Rattle.lattice.specs.Lists.{sum}
 use Rattle.net.specs.Net.{Net}
-use Rattle.net.specs.Delay.{branchesTo, atRepeater, capacitance, ownLoad, under, stageDelay, stagesDelay, delay, loadFigure}
-use Rattle.net.specs.Segments.{ownDelay, ownRepeaterDelay, stageCharge, repeaterCharge}
+use Rattle.net.specs.Delay.{branchesTo, atRepeater, capacitance, ownLoad, under, delay, loadFigure}
+use Rattle.net.specs.Segments.{ownDelay, ownRepeaterDelay, repeaterCharge}
 use Rattle.quantity.specs.declared.Capacitance.{Capacitance}
 use Rattle.elmore.specs.declared.Part.{Part}
 use Rattle.elmore.specs.declared.PartAndCharge.{PartAndCharge}
-use Rattle.elmore.specs.declared.DelayAndLoad.{DelayAndLoad}
+use Rattle.stages.specs.declared.DelayAndLoad.{DelayAndLoad}
+use Rattle.stages.specs.Charges.{Has}
 
 -- Parts of the tree: the branches at the node q, and the branch of segment i, where `has i l` is what it has with l in its own branches.
 abbrev pub branchesOf : Net → (ℕ → ℕ → ℕ) → ℕ → ℕ
@@ -54,23 +55,6 @@ module _ (net : Net) (x : List ℕ) where
   pub record WholeOf (t : PartAndCharge) : Type 0 where
     pub source : Tally branchesOf 0 (t .part)
     pub charge : RepeatersCharge (t .charge)
-
--- r has the delay d and the load l.
-pub record Has (d l : ℕ) (r : DelayAndLoad) : Type 0 where
-  pub delay : r .delay .0 ≡ d
-  pub load : r .load .0 ≡ l
-
--- r has what a driver of the size k contributes to every sink behind it, and what it charges, where it drives the load l.
-abbrev pub DriverOf : Net → ℕ → ℕ → DelayAndLoad → Type 0
-DriverOf net k l = Has (net .driverResistance k * (net .output k + l)) (net .output k + l)
-
--- r has what stage s contributes to every sink, and what it charges.
-abbrev pub StageOf : Net → List ℕ → ℕ → DelayAndLoad → Type 0
-StageOf net x s = Has (stageDelay net x s) (stageCharge net x s)
-
--- r has what all stages contribute to every sink, and what they charge.
-abbrev pub StagesOf : Net → List ℕ → DelayAndLoad → Type 0
-StagesOf net x = Has (stagesDelay net x) (sum (net .stages) (stageCharge net x))
 
 -- r has the scaled delay and the load figure of the sizing x.
 abbrev pub FiguresOf : Net → List ℕ → DelayAndLoad → Type 0

@@ -4,17 +4,18 @@ use net::Counts;
 use quantity::Capacitance;
 use quantity::Delay;
 use quantity::Resistance;
+use stages::DelayAndLoad;
 ghost use mathlib.Core.Path.{_≡_};
 ghost use Prim.Native.Nat.{suc, _<_, _≤_};
 ghost use lib.ListN.{length};
 ghost use Rattle.net.specs.Net.{netBy};
-ghost use Rattle.net.specs.Delay.{branchesLoad, stageLoad, delay as delayOf};
+ghost use Rattle.net.specs.Delay.{delay as delayOf};
 ghost use Rattle.net.specs.Checked.{Checked};
 ghost use Rattle.links.specs.Links.{siblings, LinkedBy};
-ghost use Rattle.elmore.specs.Ready.{Ready};
+ghost use Rattle.stages.specs.Ready.{Ready};
 ghost use Rattle.elmore.specs.Step.{Fields, Empty, lag, RoomCharged, RoomBehind, Behind, RoomJoined, Joined};
 ghost use Rattle.elmore.specs.Seats.{SeatedTo, Seated};
-ghost use Rattle.elmore.specs.Tally.{branchOf, branchesOf, RepeatersCharge, RepeatedOf, WholeOf, Tally, DriverOf, StageOf, StagesOf, FiguresOf};
+ghost use Rattle.elmore.specs.Tally.{branchOf, branchesOf, RepeatersCharge, RepeatedOf, WholeOf, Tally, FiguresOf};
 ghost use Rattle.elmore.specs.Tables.{segmentAt, partAt, Put, SizedTo, PartsFrom, tables, OfSome, OfEach};
 
 // A segment with its wire at the sizing's width.
@@ -35,12 +36,6 @@ pub struct Part {
 pub struct PartAndCharge {
     pub part: Part,
     pub charge: Capacitance,
-}
-
-// Of a sizing its scaled delay and its load figure; of a driver, or of all stages, what is contributed to every sink behind and what is charged.
-pub struct DelayAndLoad {
-    pub delay: Delay,
-    pub load: Capacitance,
 }
 
 // Segment i, as the sizing has it.
@@ -163,21 +158,6 @@ fn seat(job: &[u8], counts: Counts, seats: &mut [u8; 64])
     }
 }
 
-// What a driver of the size k contributes to every sink behind it, and what it charges: its own output and the load that it drives.
-fn driver(job: &[u8], counts: Counts, k: usize, load: Capacitance) -> DelayAndLoad
-    requires { ⌜ Checked counts (now job) ⌝ }
-    requires { ⌜ (k < counts .sizes) × (load .0 ≤ 13600000) ⌝ }
-    ensures { λ r. ⌜ DriverOf (netBy counts (now (job .entry))) k (load .0) r ⌝ }
-{
-    let own = job::output(job, counts, k);
-    let resistance = job::driver_resistance(job, counts, k);
-    let charge = quantity::add_capacitance(own, load);
-    DelayAndLoad {
-        delay: quantity::delay_through(resistance, charge),
-        load: charge,
-    }
-}
-
 // Entry r of the table of what hangs at the repeaters' segments: the part's weight, load and delay.
 fn part_at(parts: &[u64; 24], r: usize) -> Part
     requires { ⌜ r < 8 ⌝ }
@@ -265,7 +245,7 @@ fn repeated(job: &[u8], counts: Counts, sizing: &[u8], r: usize, part: Part) -> 
     let size = job::index_at(sizing, counts.stages + counts.segments + r);
     let seen = job::gate(job, counts, size);
     let behind = part.load;
-    let one = driver(job, counts, size, behind);
+    let one = stages::driver(job, counts, size, behind);
     let charge = one.load;
     let hangs = Part {
         weight: part.weight,
@@ -357,53 +337,6 @@ fn whole(
     }
 }
 
-// What stage s drives, where the load of the whole tree is known.
-fn stage_load(job: &[u8], counts: Counts, sizing: &[u8], tree: Capacitance, s: usize) -> Capacitance
-    requires { ⌜ Ready counts (now job) (now sizing) ⌝ }
-    requires { ⌜ tree .0 ≡ branchesLoad (netBy counts (now job)) (now sizing) 0 ⌝ }
-    requires { ⌜ s < counts .stages ⌝ }
-    ensures { λ r. ⌜ r .0 ≡ stageLoad (netBy counts (now (job .entry))) (now (sizing .entry)) s ⌝ }
-{
-    if s + 1 == counts.stages {
-        return tree;
-    }
-    let size = job::index_at(sizing, s + 1);
-    job::gate(job, counts, size)
-}
-
-// What stage s contributes to every sink, and what it charges.
-fn stage(job: &[u8], counts: Counts, sizing: &[u8], tree: Capacitance, s: usize) -> DelayAndLoad
-    requires { ⌜ Ready counts (now job) (now sizing) ⌝ }
-    requires { ⌜ tree .0 ≡ branchesLoad (netBy counts (now job)) (now sizing) 0 ⌝ }
-    requires { ⌜ s < counts .stages ⌝ }
-    ensures { λ r. ⌜ StageOf (netBy counts (now (job .entry))) (now (sizing .entry)) s r ⌝ }
-{
-    let size = job::index_at(sizing, s);
-    let driven = stage_load(job, counts, sizing, tree, s);
-    driver(job, counts, size, driven)
-}
-
-// What all stages contribute to every sink, and what they charge, in one pass.
-fn stages(job: &[u8], counts: Counts, sizing: &[u8], tree: Capacitance) -> DelayAndLoad
-    requires { ⌜ Ready counts (now job) (now sizing) ⌝ }
-    requires { ⌜ tree .0 ≡ branchesLoad (netBy counts (now job)) (now sizing) 0 ⌝ }
-    ensures { λ r. ⌜ StagesOf (netBy counts (now (job .entry))) (now (sizing .entry)) r ⌝ }
-{
-    let mut delay = Delay(0);
-    let mut charged = Capacitance(0);
-    let mut s = 0;
-    while s < counts.stages {
-        let one = stage(job, counts, sizing, tree, s);
-        delay = quantity::add_delay(delay, one.delay);
-        charged = quantity::add_capacitance(charged, one.load);
-        s += 1;
-    }
-    DelayAndLoad {
-        delay: delay,
-        load: charged,
-    }
-}
-
 // The scaled delay and the load figure, where the tree is counted up. The figure is what the stages and the repeaters charge: each gate but the
 // first, and all of the tree, is driven by one.
 fn driven(job: &[u8], counts: Counts, sizing: &[u8], tree: PartAndCharge) -> DelayAndLoad
@@ -412,7 +345,7 @@ fn driven(job: &[u8], counts: Counts, sizing: &[u8], tree: PartAndCharge) -> Del
     ensures { λ r. ⌜ FiguresOf (netBy counts (now (job .entry))) (now (sizing .entry)) r ⌝ }
 {
     let source = tree.part;
-    let chain = stages(job, counts, sizing, source.load);
+    let chain = stages::stages(job, counts, sizing, source.load);
     let before = quantity::weighted(2, chain.delay);
     DelayAndLoad {
         delay: quantity::add_delay(quantity::weighted(source.weight, before), source.delay),

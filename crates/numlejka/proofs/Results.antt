@@ -5,7 +5,7 @@ use Prim.Native.Nat.{ℕ, _≤_}
 use native.Mathlib.Omega.{arith}
 use borrow.Author.Tests.{ne-eqb}
 use Rattle.net.specs.Answers.{Measured, Refined, measured, refined, chooseNumber}
-use Rattle.elmore.specs.declared.DelayAndLoad.{DelayAndLoad}
+use Rattle.stages.specs.declared.DelayAndLoad.{DelayAndLoad}
 use Rattle.operations.specs.declared.Measurement.{Measurement}
 use Rattle.operations.specs.declared.Measurement.the-variants.{Figures, Refused}
 use Rattle.best.specs.declared.EndsAndDelay.{EndsAndDelay}

@@ -1,6 +1,6 @@
 // measure, refine and choose: three of the four operations, total on every input.
 use best::EndsAndDelay;
-use elmore::DelayAndLoad;
+use stages::DelayAndLoad;
 ghost use mathlib.Core.Path.{_≡_};
 ghost use mathlib.Core.Bool.{true, false};
 ghost use Rattle.net.specs.Answers.{measured, refined, chosen};

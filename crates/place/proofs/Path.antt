@@ -74,8 +74,7 @@ module _ (net : Driving) (o : Placed net) (l : InLimits net) (x : List ℕ) (low
 pub some-upstream : (net : Driving) → Placed net → (x : List ℕ) (n : ℕ) → n ≤ net .places → (u : List ℕ) × UpstreamTo net x x n u
 some-upstream net o x zero h = (replicate (net .places) 0, before-start net _ _ (omega (arith, length-replicate {A = ℕ} (net .places) 0)))
 some-upstream net o x (suc n) h =
-    let s = some-upstream net o x n (omega arith) in
-    (
+    let s = some-upstream net o x n (omega arith) in (
       set (s .0) n (before (onward net x x (s .0)) (net .hangsAt n)),
       rw (add-one n) at (before-step net o _ (onward-reads net x x) (s .0) n _ (omega arith) (s .1) refl),
     )

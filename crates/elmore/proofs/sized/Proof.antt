@@ -1,6 +1,6 @@
 -- `elmore::sized` meets its contract: the sizing's width has its row.
 use native.Mathlib.Omega.{arith}
-use Rattle.elmore.proofs.Drives.{width-held}
+use Rattle.stages.proofs.Drives.{width-held}
 use borrow.Author.Needs.{needs}
 use Rattle.elmore.proofs.sized.Statement.{statement}
 use Rattle.elmore.proofs.sized.Tie as tie

@@ -11,7 +11,7 @@ use Rattle.net.specs.Net.{Net, netBy}
 use Rattle.net.proofs.Sum.{sum-suc}
 use Rattle.net.proofs.Questions.{ordered, limited}
 use Rattle.net.proofs.Bound.{stages-bounded}
-use Rattle.elmore.specs.Ready.{Ready}
+use Rattle.stages.specs.Ready.{Ready}
 
 -- a stage after those before it, by f: what each contributes, or what each charges
 pub stages-step : (f : ℕ → ℕ) (s t d : ℕ) → t ≡ sum s f → d ≡ f s → t + d ≡ sum (s + 1) f

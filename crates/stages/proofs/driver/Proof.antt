@@ -1,11 +1,11 @@
--- `elmore::driver` meets its contract: the limits on a driver's figures give room.
+-- `stages::driver` meets its contract: the limits on a driver's figures give room.
 use mathlib.Core.Path.{ap, _∙_}
 use Prim.Native.Nat.{ℕ, _+_, _≤_}
 use native.Mathlib.Nat.{mul-le-mul}
 use native.Mathlib.Omega.{arith}
 use borrow.Author.Needs.{needs}
-use Rattle.elmore.proofs.driver.Statement.{statement}
-use Rattle.elmore.proofs.driver.Tie as tie
+use Rattle.stages.proofs.driver.Statement.{statement}
+use Rattle.stages.proofs.driver.Tie as tie
 
 output-requires : tie.Need-output-requires
 output-requires c κs = search needs

@@ -1,14 +1,14 @@
--- `elmore::stage_load` meets its contract: both ways are the definition's.
+-- `stages::stage_load` meets its contract: both ways are the definition's.
 use mathlib.Core.Path.{sym, ap, _∙_}
 use Prim.Native.Nat.{_+_}
 use native.Mathlib.Numerals.{add-one}
 use native.Mathlib.Omega.{arith}
 use Rattle.net.specs.Net.{netBy}
 use Rattle.net.proofs.Charged.{last-drives, other-drives}
-use Rattle.elmore.proofs.Drives.{size-held}
+use Rattle.stages.proofs.Drives.{size-held}
 use borrow.Author.Needs.{needs}
-use Rattle.elmore.proofs.stage_load.Statement.{statement}
-use Rattle.elmore.proofs.stage_load.Tie as tie
+use Rattle.stages.proofs.stage_load.Statement.{statement}
+use Rattle.stages.proofs.stage_load.Tie as tie
 
 add-if1 : tie.Need-add-if1
 add-if1 c = search needs

@@ -1,11 +1,11 @@
--- `elmore::stage` meets its contract: it is a driver of the sizing's size.
+-- `stages::stage` meets its contract: it is a driver of the sizing's size.
 use native.Mathlib.Omega.{arith}
 use Rattle.net.proofs.Questions.{ordered, limited}
 use Rattle.net.proofs.Bound.{stageLoad-small}
-use Rattle.elmore.proofs.Drives.{size-held}
+use Rattle.stages.proofs.Drives.{size-held}
 use borrow.Author.Needs.{needs}
-use Rattle.elmore.proofs.stage.Statement.{statement}
-use Rattle.elmore.proofs.stage.Tie as tie
+use Rattle.stages.proofs.stage.Statement.{statement}
+use Rattle.stages.proofs.stage.Tie as tie
 
 index-at-requires : tie.Need-index-at-requires
 index-at-requires c κs = search needs

@@ -1,4 +1,4 @@
--- `elmore::stages` meets its contract; the loop's invariant is that both sums are those of the stages passed.
+-- `stages::stages` meets its contract; the loop's invariant is that both sums are those of the stages passed.
 use mathlib.Core.Path.{_≡_, ap, _∙_}
 use Prim.Native.Nat.{ℕ, _≤_, _-_}
 use native.Mathlib.Omega.{arith}
@@ -8,10 +8,10 @@ use Rattle.net.specs.Delay.{stageDelay, stagesDelay}
 use Rattle.net.specs.Segments.{stageCharge}
 use Rattle.net.proofs.Questions.{ordered, limited}
 use Rattle.net.proofs.Bound.{stageCharge-small, stageDelay-small}
-use Rattle.elmore.proofs.Drives.{stages-step, stages-room}
+use Rattle.stages.proofs.Drives.{stages-step, stages-room}
 use borrow.Author.Needs.{needs}
-use Rattle.elmore.proofs.stages.Statement.{statement}
-use Rattle.elmore.proofs.stages.Tie as tie
+use Rattle.stages.proofs.stages.Statement.{statement}
+use Rattle.stages.proofs.stages.Tie as tie
 
 abbrev Inv-loop : tie.InvT-loop
 Inv-loop job counts sizing tree delay₀ charged₀ s₀ delay charged s =

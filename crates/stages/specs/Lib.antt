@@ -1,0 +1,2 @@
+pub mod Charges
+pub mod Ready
