@@ -50,7 +50,7 @@ pub some-counted : {c : Counts} {b : List ℕ} {r : Bool} → Held c b → r ≡
 some-counted {c} {b} {r} h e t =
     record { held = h; someStage = in-counts c e t .0 }
 
--- What question 1 gives: there is a record.
+-- What question 1 gives: there is a record. It is for the must-fail edits that take one away.
 pub some-record : (b : List ℕ) {r : Bool} → r ≡ question1 b → not r ≡ false → 1 ≤ records b
 unfolding question1
 some-record b {r} e t =

@@ -3,7 +3,7 @@ use mathlib.Core.Path.{_≡_, _∙_, refl, sym, ap, ap₂}
 use mathlib.Core.Bool.{Bool, true, false, not, cond, _&&_, _||_, and-assoc, and-true, or-true}
 use mathlib.Core.List.{List}
 use Prim.Native.Nat.{ℕ, zero, suc, _+_, _*_, _-_, _%_, _≤_, _<_}
-use native.Mathlib.Nat.{zero-add, add-zero, add-assoc, div-add-mod'}
+use native.Mathlib.Nat.{zero-add, add-assoc, div-add-mod'}
 use native.Mathlib.Decide.{ℕ-discrete}
 use native.Mathlib.Numerals.{add-one}
 use native.Mathlib.Omega.{arith}
@@ -13,7 +13,7 @@ use lib.ListN.{length}
 use Rattle.lattice.specs.Lists.{every}
 use Rattle.net.specs.declared.Counts.{Counts}
 use Rattle.net.specs.Job.{byte, records, widthAt, widthLayer, widthsOf, firstRow, segmentAt, segmentSink, segmentLength, sinkCapacitance, segmentLayer}
-use Rattle.net.specs.Questions.{inRange, question1, question2, question24, question3, question4, zeros, sinkOrZero, question5, question6, question7, question8, question9, question10, question23}
+use Rattle.net.specs.Questions.{inRange, question1, question24, question3, question4, zeros, sinkOrZero, question5, question6, question7, question8, question9, question10, question23}
 use Rattle.runs.specs.Records.{byteOf, byteInOrder, numberInOrder, zeroBytes, byteWithin, wordWithin, rowsInOrder, rangeWithin, segmentFits, parentInOrder}
 use Rattle.net.proofs.Records.{layer-0, layer-1}
 use Rattle.questions.specs.Check.{topLayer, repeatersZero}
@@ -43,13 +43,6 @@ module _ (b : List ℕ) where
       go : Dec (_%_ (length b) 16 ≡ 0) → eqb (16 * n) (length b) ≡ eqb (_%_ (length b) 16) 0
       go (yes z) = rw (eq-eqb (16 * n) (length b) (omega (arith, div-add-mod' (length b) 16)), eq-eqb (_%_ (length b) 16) 0 z)
       go (no z) = rw (ne-eqb (16 * n) (length b) (λ f. z (omega (arith, div-add-mod' (length b) 16))), ne-eqb (_%_ (length b) 16) 0 z)
-
-  pub question2-by : (n : ℕ) {p : Bool} → n ≡ records b → p ≡ every n (byteWithin b 0 0 1 5) && every (n - 1) (byteInOrder b 0) → p ≡ question2 b
-  unfolding question2
-  question2-by n m e =
-      rw m at e
-      ∙ both (every-same _ _ _ (λ k h. rw (add-zero (16 * (0 + k)), zero-add k)))
-      (every-same _ _ _ (λ k h. rw (add-one k, zero-add k, zero-add (suc k), add-zero (16 * k), add-zero (16 * suc k))))
 
 -- Layer 1 has widths exactly where those of layer 0 are not all.
 module _ (c : Counts) where

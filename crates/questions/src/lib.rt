@@ -1,6 +1,7 @@
 // Questions 1 to 11 and 22 to 24, asked of a job of any length, in time linear in it. Within a question all tests are asked, by `&`: a proof then has
 // one way through it.
 use net::Counts;
+use runs::RunEnds;
 ghost use mathlib.Core.Path.{_≡_};
 ghost use Prim.Native.Nat.{_<_, _≤_};
 ghost use lib.ListN.{length};
@@ -8,6 +9,7 @@ ghost use Rattle.net.specs.Job.{records};
 ghost use Rattle.net.specs.Net.{netBy};
 ghost use Rattle.net.specs.Questions.{question1, question2, question24, question3, question4, question5, question6, question7, question8, question9, question10, question11, question22, question23, firstNo};
 ghost use Rattle.net.specs.Checked.{Held};
+ghost use Rattle.runs.specs.Kinds.{EndsOf};
 ghost use Rattle.questions.specs.Check.{CheckOf, Asked, topLayer, repeatersZero, questionsFrom11, questionsFrom7, questionsFrom24, Counted, Firsts};
 
 // The number of the first question that a job fails, 0 where it passes all; the count of its records; and, where it passes all, their counts by
@@ -26,12 +28,13 @@ fn question1(job: &[u8], n: usize) -> bool
     (0 < job.len()) & (16 * n == job.len())
 }
 
-// Question 2, of n records: is every kind 1 to 5, never falling?
-fn question2(job: &[u8], n: usize) -> bool
-    requires { ⌜ (n ≡ records (now job)) × (1 ≤ n) ⌝ }
+// Question 2, of n records: is every kind 1 to 5, never falling? It is where the runs of the kinds, one behind another, cover all.
+fn question2(job: &[u8], n: usize, ends: RunEnds) -> bool
+    requires { ⌜ n ≡ records (now job) ⌝ }
+    requires { ⌜ EndsOf (now job) n ends ⌝ }
     ensures { λ r. ⌜ r ≡ question2 (now (job .entry)) ⌝ }
 {
-    runs::bytes_in_order(job, n, 0, 1, 5)
+    ends.repeaters == n
 }
 
 // The highest layer that has widths.
@@ -292,10 +295,11 @@ fn questions_from_1(job: &[u8]) -> Outcome
     if !question1(job, records) {
         return uncounted(1, records);
     }
-    if !question2(job, records) {
+    let ends = runs::find_ends(job, records);
+    if !question2(job, records, ends) {
         return uncounted(2, records);
     }
-    let counts = runs::count(job, records);
+    let counts = runs::count(job, records, ends);
     let number = questions_from_24(job, counts);
     Outcome {
         number: number,

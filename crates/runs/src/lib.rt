@@ -6,8 +6,17 @@ ghost use mathlib.Core.Bool.{_&&_};
 ghost use Prim.Native.Nat.{_+_, _*_, _-_, _<_, _≤_};
 ghost use lib.ListN.{length};
 ghost use Rattle.lattice.specs.Lists.{every};
-ghost use Rattle.runs.specs.Kinds.{Kinds, UpTo, Ends};
+ghost use Rattle.runs.specs.Kinds.{Kinds, RunEnd, EndsOf};
 ghost use Rattle.runs.specs.Records.{byteOf, wordOf, byteInOrder, numberInOrder, zeroFrom, zeroBytes, byteWithin, wordWithin, rowsInOrder, rangeWithin, segmentFits, parentInOrder, sinkOrBranch, branched, siteBranched, sitesRise, layer0In, countsTo, HasRun};
+
+// Where the run of each kind of record ends.
+pub struct RunEnds {
+    pub widths: usize,
+    pub sizes: usize,
+    pub stages: usize,
+    pub segments: usize,
+    pub repeaters: usize,
+}
 
 // The byte at `at` of the record k after `start`.
 pub fn byte_of(job: &[u8], start: usize, at: usize, k: usize) -> usize
@@ -255,16 +264,14 @@ pub fn repeaters_sited(job: &[u8], first: &[usize], start: usize, count: usize, 
     true
 }
 
-// The first of n records whose kind is above `kind`, or n. The records before `from` are known to be of kinds up to it.
-fn end_of(job: &[u8], n: usize, from: usize, kind: usize) -> usize
-    requires { ⌜ 16 * n ≤ length (now job) ⌝ }
-    requires { ⌜ Kinds (now job) n ⌝ }
-    requires { ⌜ UpTo (now job) n kind from ⌝ }
-    ensures { λ r. ⌜ Ends (now (job .entry)) n kind r ⌝ }
+// The first of n records, from `from` on, that is not of a kind, or n: where the run of that kind ends.
+fn run_end(job: &[u8], n: usize, from: usize, kind: usize) -> usize
+    requires { ⌜ (16 * n ≤ length (now job)) × (from ≤ n) ⌝ }
+    ensures { λ r. ⌜ RunEnd (now (job .entry)) n kind from r ⌝ }
 {
     let mut k = from;
     while k < n {
-        if kind < job::index_at(job, 16 * k) {
+        if job::index_at(job, 16 * k) != kind {
             return k;
         }
         k += 1;
@@ -272,20 +279,23 @@ fn end_of(job: &[u8], n: usize, from: usize, kind: usize) -> usize
     n
 }
 
-// The same, looked for from the last record down.
-fn end_from_last(job: &[u8], n: usize, kind: usize) -> usize
+// Where in n records the run of each kind ends, each from the end of the one before on. A record is read again only where a run ends.
+pub fn find_ends(job: &[u8], n: usize) -> RunEnds
     requires { ⌜ 16 * n ≤ length (now job) ⌝ }
-    requires { ⌜ Kinds (now job) n ⌝ }
-    ensures { λ r. ⌜ Ends (now (job .entry)) n kind r ⌝ }
+    ensures { λ r. ⌜ EndsOf (now (job .entry)) n r ⌝ }
 {
-    let mut k = n;
-    while k > 0 {
-        if job::index_at(job, 16 * (k - 1)) <= kind {
-            return k;
-        }
-        k -= 1;
+    let widths = run_end(job, n, 0, 1);
+    let sizes = run_end(job, n, widths, 2);
+    let stages = run_end(job, n, sizes, 3);
+    let segments = run_end(job, n, stages, 4);
+    let repeaters = run_end(job, n, segments, 5);
+    RunEnds {
+        widths: widths,
+        sizes: sizes,
+        stages: stages,
+        segments: segments,
+        repeaters: repeaters,
     }
-    0
 }
 
 // How many of the first n records, which are widths, are of layer 0.
@@ -304,23 +314,20 @@ fn count_layer0(job: &[u8], n: usize) -> usize
 }
 
 // How many of the first n records are of each kind, and of the widths how many are of layer 0, where their kinds are 1 to 5 and never fall: each
-// kind is one run of records. Repeaters, which are few, are counted from the last record down.
-pub fn count(job: &[u8], n: usize) -> Counts
+// kind is one run of records.
+pub fn count(job: &[u8], n: usize, ends: RunEnds) -> Counts
     requires { ⌜ 16 * n ≤ length (now job) ⌝ }
     requires { ⌜ Kinds (now job) n ⌝ }
+    requires { ⌜ EndsOf (now job) n ends ⌝ }
     ensures { λ r. ⌜ r ≡ countsTo (now (job .entry)) n ⌝ }
 {
-    let widths = end_of(job, n, 0, 1);
-    let sizes = end_of(job, n, widths, 2);
-    let stages = end_of(job, n, sizes, 3);
-    let segments = end_from_last(job, n, 4);
-    let layer0 = count_layer0(job, widths);
+    let layer0 = count_layer0(job, ends.widths);
     Counts {
-        widths: widths,
+        widths: ends.widths,
         layer0: layer0,
-        sizes: sizes - widths,
-        stages: stages - sizes,
-        segments: segments - stages,
-        repeaters: n - segments,
+        sizes: ends.sizes - ends.widths,
+        stages: ends.stages - ends.sizes,
+        segments: ends.segments - ends.stages,
+        repeaters: n - ends.segments,
     }
 }

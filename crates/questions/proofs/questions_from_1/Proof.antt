@@ -1,9 +1,8 @@
 -- `questions::questions_from_1` meets its contract: the first no decides, and where there is none the job can be linked.
-use mathlib.Core.Path.{refl}
 use borrow.Author.Needs.{needs}
 use native.Mathlib.Omega.{arith}
 use Rattle.runs.proofs.Ends.{kinds-known}
-use Rattle.questions.proofs.Numbers.{some-record, counted-all, counted-held, refused-1, refused-2, asked-from-24}
+use Rattle.questions.proofs.Numbers.{counted-all, counted-held, refused-1, refused-2, asked-from-24}
 use Rattle.questions.proofs.questions_from_1.Statement.{statement}
 use Rattle.questions.proofs.questions_from_1.Tie as tie
 
@@ -16,23 +15,40 @@ uncounted-requires c κs = search needs
 returns : tie.Need-returns
 returns c = refused-1 _ (c .before .before .question1 .ensures) _ (c .uncounted .ensures) (c .before .if1 .taken)
 
+find-ends-requires : tie.Need-find-ends-requires
+find-ends-requires c κs = search needs
+
 question2-requires : tie.Need-question2-requires
-question2-requires c κs = (refl, some-record _ (c .before .question1 .ensures) (c .if1 .left))
+question2-requires c κs = search needs
 
 uncounted-requires-2 : tie.Need-uncounted-requires-2
 uncounted-requires-2 c κs = search needs
 
 returns-2 : tie.Need-returns-2
-returns-2 c = refused-2 _ (c .before .before .before .before .question1 .ensures) (c .before .before .before .if1 .left) (c .before .before .question2 .ensures) _ (c .uncounted2 .ensures) (c .before .if2 .taken)
+returns-2 c =
+    refused-2 _
+    (c .before .before .before .before .before .question1 .ensures)
+    (c .before .before .before .before .if1 .left)
+    (c .before .before .question2 .ensures) _
+    (c .uncounted2 .ensures)
+    (c .before .if2 .taken)
 
 count-requires : tie.Need-count-requires
-count-requires c κs = (omega arith, kinds-known _ (c .before .question2 .ensures) (c .if2 .left))
+count-requires c κs = (omega arith, (kinds-known _ (c .before .question2 .ensures) (c .if2 .left), c .before .before .find-ends .ensures))
 
 questions-from-24-requires : tie.Need-questions-from-24-requires
 questions-from-24-requires c κs = counted-held _ _ (omega arith) (c .count .ensures)
 
 returns-3 : tie.Need-returns-3
-returns-3 c = asked-from-24 _ (c .before .before .before .before .before .question1 .ensures) (c .before .before .before .before .if1 .left) (c .before .before .before .question2 .ensures) (c .before .before .if2 .left) _ _ _ (omega arith) (counted-all _ _ (omega arith) (c .before .count .ensures)) (c .questions-from-24 .ensures)
+returns-3 c =
+    let a = c .before .before in
+    asked-from-24 _
+    (a .before .before .before .before .question1 .ensures)
+    (a .before .before .before .if1 .left)
+    (a .before .question2 .ensures)
+    (a .if2 .left) _ _ _ (omega arith)
+    (counted-all _ _ (omega arith) (c .before .count .ensures))
+    (c .questions-from-24 .ensures)
 
 pub questions-from-1-spec : {M : Type 1} → statement M
 questions-from-1-spec =
@@ -41,6 +57,7 @@ questions-from-1-spec =
     question1-requires
     uncounted-requires
     returns
+    find-ends-requires
     question2-requires
     uncounted-requires-2
     returns-2
