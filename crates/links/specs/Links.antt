@@ -7,10 +7,6 @@ use Rattle.net.specs.declared.Counts.{Counts}
 use Rattle.net.specs.Net.{Net, netBy}
 use Rattle.net.specs.Segments.{forest}
 
--- Each segment hangs at a node that stands before it: what question 9 gives, and all that linking asks of a net.
-pub record Parents (net : Net) : Type 0 where
-  pub falls : (i : ℕ) → i < net .segments → net .parent i ≤ i
-
 -- i is the first segment from j on that hangs at the node q; where there is none, i is the number of segments.
 pub record First (net : Net) (q j i : ℕ) : Type 0 where
   pub from : j ≤ i

@@ -6,20 +6,20 @@ use Prim.Native.Nat.{ℕ, zero, suc, _*_, _%_, _≤_}
 use native.Mathlib.Nat.{div-add-mod'}
 use native.Mathlib.Omega.{arith}
 use borrow.Author.Tests.{not-true, not-false}
-use lib.Dec.{T, leb, ltb, eqb, leb→le, ltb→lt}
+use lib.Dec.{T, ltb, eqb, ltb→lt}
 use lib.ListN.{length}
-use Rattle.lattice.proofs.ListLaws.{and-T, every-at}
+use Rattle.lattice.proofs.ListLaws.{and-T}
 use Rattle.net.specs.declared.Counts.{Counts}
-use Rattle.net.specs.Job.{records, countsOf, widthsOf, segmentParent}
+use Rattle.net.specs.Job.{records, countsOf, widthsOf}
 use Rattle.net.specs.Net.{netBy}
-use Rattle.net.specs.Questions.{inRange, question1, question2, question24, question3, question4, question5, question6, question7, question8, question9, question10, Question, ask, firstNo, jobQuestions, refusal}
+use Rattle.net.specs.Questions.{inRange, question1, question2, question24, question3, question4, question5, question6, question7, question8, question9, Question, ask, firstNo, jobQuestions, refusal}
 use Rattle.net.specs.Checked.{Held}
 use Rattle.net.proofs.Records.{records-fill, counts-small, layer0-small, counts-held}
 use Rattle.net.proofs.Questions.{in-range, checked}
-use Rattle.links.specs.Links.{Parents, Linked}
+use Rattle.links.specs.Links.{Linked}
 use Rattle.questions.specs.declared.Outcome.{Outcome}
 use Rattle.runs.specs.Records.{countsTo}
-use Rattle.questions.specs.Check.{CheckOf, Linkable, Asked, questionsFrom11, questionsFrom7, questionsFrom24, Counted}
+use Rattle.questions.specs.Check.{CheckOf, Linkable, Asked, questionsFrom10, questionsFrom9, questionsFrom7, questionsFrom24, Counted}
 
 -- r is the answer to the question q, the first of those that are left: yes, and a later one decides; or no
 pub yes : (m : ℕ) (qs : List Question) {q r : Bool} {n : ℕ} → r ≡ q → not r ≡ false → n ≡ firstNo qs → n ≡ firstNo (ask m q ∷ qs)
@@ -76,10 +76,6 @@ found (q ∷ qs) rs n e = go (q .passed) (λ h. found qs rs n h) e
     go true rest h = rest h
     go false rest h = h
 
-parents : (c : Counts) (b : List ℕ) → true ≡ question9 c b → Parents (netBy c b)
-unfolding question9
-parents c b e = record { falls = λ i h. leb→le _ _ (every-at (c .segments) (λ j. leb (segmentParent c b j) j) (rw (sym e) tt) i h) }
-
 -- where no question fails, the first passes and so do the rest
 passed : (n : ℕ) (q : Bool) (qs : List Question) → firstNo (ask (suc n) q ∷ qs) ≡ 0 → (true ≡ q) × (firstNo qs ≡ 0)
 unfolding firstNo
@@ -105,7 +101,7 @@ module _ (b : List ℕ) {p : Bool} (one : p ≡ question1 b) where
       c = countsOf b
 
       linkable : firstNo (questionsFrom24 c b) ≡ 0 → Linkable c b
-      unfolding questionsFrom24 questionsFrom7 questionsFrom11 refusal jobQuestions
+      unfolding questionsFrom24 questionsFrom7 questionsFrom9 questionsFrom10 refusal jobQuestions
       linkable e =
           let a24 = passed 23 (question24 c b) _ e in
           let a3 = passed 2 (question3 c) _ (a24 .1) in
@@ -114,20 +110,17 @@ module _ (b : List ℕ) {p : Bool} (one : p ≡ question1 b) where
           let a6 = passed 5 (question6 c b) _ (a5 .1) in
           let a7 = passed 6 (question7 c b) _ (a6 .1) in
           let a8 = passed 7 (question8 c b) _ (a7 .1) in
-          let a9 = passed 8 (question9 c b) _ (a8 .1) in
-          let a10 = passed 9 (question10 c b) _ (a9 .1) in
           record {
             counted = refl;
             held = counts-held b;
             few = in-counts c (a3 .0) refl .1;
-            parents = parents c b (a9 .0);
-            decides = yes _ _ one t (yes _ _ two u (yes _ _ (a24 .0) refl (yes _ _ (a3 .0) refl (yes _ _ (a4 .0) refl (yes _ _ (a5 .0) refl (yes _ _ (a6 .0) refl (yes _ _ (a7 .0) refl (yes _ _ (a8 .0) refl (yes _ _ (a9 .0) refl (yes _ _ (a10 .0) refl refl))))))))));
+            decides = yes _ _ one t (yes _ _ two u (yes _ _ (a24 .0) refl (yes _ _ (a3 .0) refl (yes _ _ (a4 .0) refl (yes _ _ (a5 .0) refl (yes _ _ (a6 .0) refl (yes _ _ (a7 .0) refl (yes _ _ (a8 .0) refl refl))))))));
           }
 
       later : (n : ℕ) → n ≡ firstNo (questionsFrom24 c b) → (n ≡ 0 → ⊥) → n ≡ refusal b
-      unfolding questionsFrom24 questionsFrom7 questionsFrom11 refusal jobQuestions
+      unfolding questionsFrom24 questionsFrom7 questionsFrom9 questionsFrom10 refusal jobQuestions
       later zero e h = absurd (h refl)
-      later (suc n) e h = yes _ _ one t (yes _ _ two u (found (questionsFrom24 c b) (questionsFrom11 c b) n e))
+      later (suc n) e h = yes _ _ one t (yes _ _ two u (found (questionsFrom24 c b) (questionsFrom9 c b) n e))
 
       pub asked-from-24 : (d : Counts) (n m : ℕ) → m ≡ records b → d ≡ countsOf b → n ≡ firstNo (questionsFrom24 d b) → Asked b (record { number = n; records = m; counts = d })
       asked-from-24 d n m g e f = rw e record { records = g; fails = later n (rw e at f); passes = λ z. linkable (sym (rw e at f) ∙ z) }
@@ -141,9 +134,31 @@ module _ {b : List ℕ} {r : Outcome} (a : Asked b r) {first next : List ℕ} wh
   pub check-early : (r .number ≡ 0 → ⊥) → CheckOf b r first next
   check-early h = record { number = a .fails h; records = a .records; filled = filled a; passed = λ e. absurd (h e); linked = λ e. absurd (h e) }
 
-  pub check-linked : r .number ≡ 0 → (n : ℕ) → n ≡ firstNo (questionsFrom11 (r .counts) b) → Linked (netBy (r .counts) b) first next
-      → CheckOf b (record { number = n; records = r .records; counts = r .counts }) first next
-  check-linked z n e l =
-      let k = a .passes z in
-      let d : n ≡ refusal b = e ∙ k .decides in
-      record { number = d; records = a .records; filled = filled a; passed = λ m. rw (k .counted) (checked b (sym d ∙ m)); linked = λ m. l }
+  -- p is the answer to question 9, which linking gives
+  module _ (z : r .number ≡ 0) {p : Bool} (nine : p ≡ question9 (r .counts) b) where
+    pub check-unlinked : not p ≡ true → (o : Outcome) → (o .number ≡ 9) × (o .records ≡ r .records) → CheckOf b o first next
+    unfolding questionsFrom9
+    check-unlinked t o e =
+        let some : o .number ≡ 0 → ⊥ = λ m. omega (arith, e .0, m) in
+        record {
+          number = e .0 ∙ no _ _ nine t ∙ a .passes z .decides;
+          records = e .1 ∙ a .records;
+          filled = λ f. omega (arith, e .1, filled a f);
+          passed = λ m. absurd (some m);
+          linked = λ m. absurd (some m);
+        }
+
+    pub check-linked : not p ≡ false → (n : ℕ) → n ≡ firstNo (questionsFrom10 (r .counts) b)
+        → (p ≡ true → Linked (netBy (r .counts) b) first next)
+        → CheckOf b (record { number = n; records = r .records; counts = r .counts }) first next
+    unfolding questionsFrom9
+    check-linked t n e l =
+        let k = a .passes z in
+        let d : n ≡ refusal b = yes _ _ nine t e ∙ k .decides in
+        record {
+          number = d;
+          records = a .records;
+          filled = filled a;
+          passed = λ m. rw (k .counted) (checked b (sym d ∙ m));
+          linked = λ m. l (not-false p t);
+        }

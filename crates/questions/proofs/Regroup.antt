@@ -13,8 +13,8 @@ use lib.ListN.{length}
 use Rattle.lattice.specs.Lists.{every}
 use Rattle.net.specs.declared.Counts.{Counts}
 use Rattle.net.specs.Job.{byte, records, widthAt, widthLayer, widthsOf, firstRow, segmentAt, segmentSink, segmentLength, sinkCapacitance, segmentLayer}
-use Rattle.net.specs.Questions.{inRange, question1, question24, question3, question4, zeros, sinkOrZero, question5, question6, question7, question8, question9, question10, question23}
-use Rattle.runs.specs.Records.{byteOf, byteInOrder, numberInOrder, zeroBytes, byteWithin, wordWithin, rowsInOrder, rangeWithin, segmentFits, parentInOrder}
+use Rattle.net.specs.Questions.{inRange, question1, question24, question3, question4, zeros, sinkOrZero, question5, question6, question7, question8, question10, question23}
+use Rattle.runs.specs.Records.{byteOf, byteInOrder, numberInOrder, zeroBytes, byteWithin, wordWithin, rowsInOrder, rangeWithin, segmentFits}
 use Rattle.net.proofs.Records.{layer-0, layer-1}
 use Rattle.questions.specs.Check.{topLayer, repeatersZero}
 use Rattle.questions.proofs.Zeros.{zero-word, zero-words, zero-behind}
@@ -142,10 +142,6 @@ module _ (c : Counts) (b : List ℕ) where
       → l ≡ byteOf b (c .widths + c .sizes) 2 0 → h ≡ byteOf b (c .widths + c .sizes) 3 0 → p && eqb l h ≡ question8 c b
   unfolding question8
   question8-by d e f = both d (ap₂ eqb e f)
-
-  pub question9-by : {p : Bool} → p ≡ every (c .segments) (parentInOrder b (c .widths + c .sizes + c .stages)) → p ≡ question9 c b
-  unfolding question9
-  question9-by d = d ∙ every-same _ _ _ (λ k l. rw (add-assoc (c .widths + c .sizes) (c .stages) k))
 
   pub question10-by : {p : Bool} → ((i : ℕ) → byte b i ≤ 255) → p ≡ every (c .segments) (segmentFits b c (c .widths + c .sizes + c .stages)) → p ≡ question10 c b
   unfolding question10 sinkOrZero

@@ -11,7 +11,7 @@ use Rattle.net.specs.Job.{records, countsOf, widthsOf, repeaterAt}
 use Rattle.net.specs.Net.{Net, netBy}
 use Rattle.net.specs.Questions.{question1, question24, question3, question4, zeros, question5, question6, question7, question8, question9, question10, question11, question22, question23, Question, ask, firstNo, refusal}
 use Rattle.net.specs.Checked.{Held, Checked}
-use Rattle.links.specs.Links.{Parents, First, Linked}
+use Rattle.links.specs.Links.{First, Linked}
 use Rattle.questions.specs.declared.Outcome.{Outcome}
 
 -- The number is that of the first question that the job fails; the count is that of the job's records, and sixteen times it is the length wherever
@@ -23,27 +23,29 @@ pub record CheckOf (job : List ℕ) (r : Outcome) (first next : List ℕ) : Type
   pub passed : r .number ≡ 0 → Checked (r .counts) job
   pub linked : r .number ≡ 0 → Linked (netBy (r .counts) job) first next
 
--- Questions 11, 22 and 23: those that are asked of linked segments.
-unfoldable pub questionsFrom11 : Counts → List ℕ → List Question
-questionsFrom11 c b = ask 11 (question11 c b) ∷ ask 22 (question22 c b) ∷ ask 23 (question23 c b) ∷ []
+-- Questions 10, 11, 22 and 23, which are asked of linked segments, and before them 9, which linking asks.
+unfoldable pub questionsFrom10 : Counts → List ℕ → List Question
+questionsFrom10 c b = ask 10 (question10 c b) ∷ ask 11 (question11 c b) ∷ ask 22 (question22 c b) ∷ ask 23 (question23 c b) ∷ []
 
--- The job passes questions 1 to 10 and 24: what linking asks, and that those asked of linked segments decide.
+unfoldable pub questionsFrom9 : Counts → List ℕ → List Question
+questionsFrom9 c b = ask 9 (question9 c b) ∷ questionsFrom10 c b
+
+-- The job passes questions 1 to 8 and 24: what linking asks, and that those from 9 on decide.
 pub record Linkable (c : Counts) (b : List ℕ) : Type 0 where
   pub counted : c ≡ countsOf b
   pub held : Held c b
   pub few : c .segments ≤ 64
-  pub parents : Parents (netBy c b)
-  pub decides : firstNo (questionsFrom11 c b) ≡ refusal b
+  pub decides : firstNo (questionsFrom9 c b) ≡ refusal b
 
--- The number is that of the first question that the job fails, or 0 where it passes 1 to 10 and 24; the count is that of the job's records.
+-- The number is that of the first question that the job fails, or 0 where it passes 1 to 8 and 24; the count is that of the job's records.
 pub record Asked (job : List ℕ) (r : Outcome) : Type 0 where
   pub records : r .records ≡ records job
   pub fails : (r .number ≡ 0 → ⊥) → r .number ≡ refusal job
   pub passes : r .number ≡ 0 → Linkable (r .counts) job
 
--- Questions 7 to 10, and before them 24 and 3 to 6: those that need the counts and no links.
+-- Questions 7 and 8, and before them 24 and 3 to 6: those that are asked before linking.
 unfoldable pub questionsFrom7 : Counts → List ℕ → List Question
-questionsFrom7 c b = ask 7 (question7 c b) ∷ ask 8 (question8 c b) ∷ ask 9 (question9 c b) ∷ ask 10 (question10 c b) ∷ []
+questionsFrom7 c b = ask 7 (question7 c b) ∷ ask 8 (question8 c b) ∷ []
 
 unfoldable pub questionsFrom24 : Counts → List ℕ → List Question
 questionsFrom24 c b = ask 24 (question24 c b) ∷ ask 3 (question3 c) ∷ ask 4 (question4 c b) ∷ ask 5 (question5 c b) ∷ ask 6 (question6 c b) ∷ questionsFrom7 c b

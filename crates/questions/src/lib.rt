@@ -7,10 +7,10 @@ ghost use Prim.Native.Nat.{_<_, _≤_};
 ghost use lib.ListN.{length};
 ghost use Rattle.net.specs.Job.{records};
 ghost use Rattle.net.specs.Net.{netBy};
-ghost use Rattle.net.specs.Questions.{question1, question2, question24, question3, question4, question5, question6, question7, question8, question9, question10, question11, question22, question23, firstNo};
+ghost use Rattle.net.specs.Questions.{question1, question2, question24, question3, question4, question5, question6, question7, question8, question22, question23, firstNo};
 ghost use Rattle.net.specs.Checked.{Held};
 ghost use Rattle.runs.specs.Kinds.{EndsOf};
-ghost use Rattle.questions.specs.Check.{CheckOf, Asked, topLayer, repeatersZero, questionsFrom11, questionsFrom7, questionsFrom24, Counted, Firsts};
+ghost use Rattle.questions.specs.Check.{CheckOf, Asked, topLayer, repeatersZero, questionsFrom10, questionsFrom7, questionsFrom24, Counted, Firsts};
 
 // The number of the first question that a job fails, 0 where it passes all; the count of its records; and, where it passes all, their counts by
 // kind.
@@ -84,9 +84,9 @@ fn question4(job: &[u8], counts: Counts) -> bool
     let second = runs::numbers_in_order(job, counts.layer0, counts.widths - counts.layer0);
     let sizes = runs::numbers_in_order(job, counts.widths, counts.sizes);
     let stages = runs::numbers_in_order(job, places, counts.stages);
-    let segments = runs::numbers_in_order(job, places + counts.stages, counts.segments);
     let start = places + (counts.stages + counts.segments);
     let repeaters = runs::numbers_in_order(job, start, counts.repeaters);
+    let segments = runs::numbers_in_order(job, places + counts.stages, counts.segments);
     (first & second) & (sizes & (stages & (segments & repeaters)))
 }
 
@@ -156,38 +156,6 @@ fn question8(job: &[u8], counts: Counts) -> bool
     ranges & (lowest == highest)
 }
 
-// Question 9: is each parent byte at most the segment's own number?
-fn question9(job: &[u8], counts: Counts) -> bool
-    requires { ⌜ Held counts (now job) ⌝ }
-    ensures { λ r. ⌜ r ≡ question9 counts (now (job .entry)) ⌝ }
-{
-    runs::parents_in_order(
-        job,
-        counts.widths + counts.sizes + counts.stages,
-        counts.segments,
-    )
-}
-
-// Question 10: are segment fields in range, capacitance and weight 0 where there is no sink, and lowest ≤ highest < count of widths of its
-// layer? A weight is a byte, so it is at most 255.
-fn question10(job: &[u8], counts: Counts) -> bool
-    requires { ⌜ Held counts (now job) ⌝ }
-    ensures { λ r. ⌜ r ≡ question10 counts (now (job .entry)) ⌝ }
-{
-    let start = counts.widths + counts.sizes + counts.stages;
-    runs::segments_fit(job, counts, start, counts.segments)
-}
-
-// Question 11: has every segment without branches a sink?
-fn question11(job: &[u8], counts: Counts, first: &[usize]) -> bool
-    requires { ⌜ Held counts (now job) ⌝ }
-    requires { ⌜ Firsts (netBy counts (now job)) (now first) ⌝ }
-    ensures { λ r. ⌜ r ≡ question11 counts (now (job .entry)) ⌝ }
-{
-    let start = counts.widths + counts.sizes + counts.stages;
-    runs::sinks_or_branches(job, first, start, counts.segments)
-}
-
 // Question 22: is the segment of every repeater there, has it branches, and do the segment numbers strictly rise?
 fn question22(job: &[u8], counts: Counts, first: &[usize]) -> bool
     requires { ⌜ Held counts (now job) ⌝ }
@@ -207,13 +175,20 @@ fn question23(job: &[u8], counts: Counts) -> bool
     runs::ranges_within(job, start, counts.repeaters, 3, counts.sizes)
 }
 
-// The number of the first of questions 11, 22 and 23 that a job fails, 0 where it passes them.
-fn questions_from_11(job: &[u8], counts: Counts, first: &[usize]) -> usize
+// The number of the first of questions 10, 11, 22 and 23 that a job fails, 0 where it passes them. Question 10: are segment fields in range,
+// capacitance and weight 0 where there is no sink, and lowest ≤ highest < count of widths of its layer? A weight is a byte, so it is at most 255.
+// Question 11: has every segment without branches a sink? One loop over the segments asks both.
+fn questions_from_10(job: &[u8], counts: Counts, first: &[usize]) -> usize
     requires { ⌜ Held counts (now job) ⌝ }
     requires { ⌜ Firsts (netBy counts (now job)) (now first) ⌝ }
-    ensures { λ r. ⌜ r ≡ firstNo (questionsFrom11 counts (now (job .entry))) ⌝ }
+    ensures { λ r. ⌜ r ≡ firstNo (questionsFrom10 counts (now (job .entry))) ⌝ }
 {
-    if !question11(job, counts, first) {
+    let start = counts.widths + counts.sizes + counts.stages;
+    let tests = runs::segments_fit(job, counts, first, start, counts.segments);
+    if !tests.fields {
+        return 10;
+    }
+    if !tests.ends {
         return 11;
     }
     if !question22(job, counts, first) {
@@ -225,7 +200,7 @@ fn questions_from_11(job: &[u8], counts: Counts, first: &[usize]) -> usize
     0
 }
 
-// The number of the first of questions 7 to 10 that a job fails, 0 where it passes them.
+// The number of the first of questions 7 and 8 that a job fails, 0 where it passes them.
 fn questions_from_7(job: &[u8], counts: Counts) -> usize
     requires { ⌜ Counted counts (now job) ⌝ }
     ensures { λ r. ⌜ r ≡ firstNo (questionsFrom7 counts (now (job .entry))) ⌝ }
@@ -236,16 +211,10 @@ fn questions_from_7(job: &[u8], counts: Counts) -> usize
     if !question8(job, counts) {
         return 8;
     }
-    if !question9(job, counts) {
-        return 9;
-    }
-    if !question10(job, counts) {
-        return 10;
-    }
     0
 }
 
-// The number of the first of questions 24 and 3 to 10 that a job fails, 0 where it passes them.
+// The number of the first of questions 24 and 3 to 8 that a job fails, 0 where it passes them.
 fn questions_from_24(job: &[u8], counts: Counts) -> usize
     requires { ⌜ Held counts (now job) ⌝ }
     ensures { λ r. ⌜ r ≡ firstNo (questionsFrom24 counts (now (job .entry))) ⌝ }
@@ -286,7 +255,7 @@ fn uncounted(number: usize, n: usize) -> Outcome
     }
 }
 
-// The number of the first of questions 1 to 10 and 24 that a job fails, 0 where it passes them; the count of its records; and, where it passes
+// The number of the first of questions 1 to 8 and 24 that a job fails, 0 where it passes them; the count of its records; and, where it passes
 // them, their counts by kind. The length is divided here and nowhere else.
 fn questions_from_1(job: &[u8]) -> Outcome
     ensures { λ r. ⌜ Asked (now (job .entry)) r ⌝ }
@@ -309,7 +278,7 @@ fn questions_from_1(job: &[u8]) -> Outcome
 }
 
 // The number of the first question that a job fails, 0 where it passes all; the count of its records; and, where it passes all, their counts by
-// kind, and its segments are linked.
+// kind, and its segments are linked. Linking asks question 9.
 pub fn check(job: &[u8], first: &mut [usize], next: &mut [usize]) -> Outcome
     requires { ⌜ (64 < length (now first)) × (64 ≤ length (now next)) ⌝ }
     ensures { λ r. ⌜ CheckOf (now (job .entry)) r (now (first .exit)) (now (next .exit)) ⌝ }
@@ -319,8 +288,10 @@ pub fn check(job: &[u8], first: &mut [usize], next: &mut [usize]) -> Outcome
         return outcome;
     }
     let counts = outcome.counts;
-    links::link(job, counts, first, next);
-    let number = questions_from_11(job, counts, first);
+    if !links::link(job, counts, first, next) {
+        return uncounted(9, outcome.records);
+    }
+    let number = questions_from_10(job, counts, first);
     Outcome {
         number: number,
         records: outcome.records,

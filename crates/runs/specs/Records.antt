@@ -57,10 +57,6 @@ module _ (b : List ℕ) where
   abbrev pub rangeWithin : ℕ → ℕ → ℕ → ℕ → Bool
   rangeWithin start at n k = leb (byteOf start at k) (byteOf start (at + 1) k) && ltb (byteOf start (at + 1) k) n
 
-  -- Is a segment's parent byte at most its own number?
-  abbrev pub parentInOrder : ℕ → ℕ → Bool
-  parentInOrder start k = leb (byteOf start 2 k) k
-
   -- Are the fields of a segment in range, capacitance and weight 0 where there is no sink, and lowest ≤ highest < count of widths of its layer?
   abbrev pub segmentFits : Counts → ℕ → ℕ → Bool
   segmentFits c start k =

@@ -2,12 +2,12 @@
 // on. A test that fails ends its loop.
 use net::Counts;
 ghost use mathlib.Core.Path.{_≡_};
-ghost use mathlib.Core.Bool.{_&&_};
+ghost use mathlib.Core.Bool.{true, _&&_};
 ghost use Prim.Native.Nat.{_+_, _*_, _-_, _<_, _≤_};
 ghost use lib.ListN.{length};
 ghost use Rattle.lattice.specs.Lists.{every};
 ghost use Rattle.runs.specs.Kinds.{Kinds, RunEnd, EndsOf};
-ghost use Rattle.runs.specs.Records.{byteOf, wordOf, byteInOrder, numberInOrder, zeroFrom, zeroBytes, byteWithin, wordWithin, rowsInOrder, rangeWithin, segmentFits, parentInOrder, sinkOrBranch, branched, siteBranched, sitesRise, layer0In, countsTo, HasRun};
+ghost use Rattle.runs.specs.Records.{byteOf, wordOf, byteInOrder, numberInOrder, zeroFrom, zeroBytes, byteWithin, wordWithin, rowsInOrder, rangeWithin, segmentFits, sinkOrBranch, branched, siteBranched, sitesRise, layer0In, countsTo, HasRun};
 
 // Where the run of each kind of record ends.
 pub struct RunEnds {
@@ -177,27 +177,27 @@ pub fn ranges_within(job: &[u8], start: usize, count: usize, at: usize, n: usize
     true
 }
 
-// Is each segment's parent byte at most its own number?
-pub fn parents_in_order(job: &[u8], start: usize, count: usize) -> bool
-    requires { ⌜ HasRun (now job) start count ⌝ }
-    ensures { λ r. ⌜ r ≡ every count (parentInOrder (now (job .entry)) start) ⌝ }
-{
-    for k in 0..count {
-        let parent = byte_of(job, start, 2, k);
-        let passed = parent <= k;
-        if !passed {
-            return false;
-        }
-    }
-    true
+// Two tests of each segment: that of its fields, and, which says something only where the fields of all segments pass, that of its far end.
+pub struct SegmentTests {
+    pub fields: bool,
+    pub ends: bool,
 }
 
 // Are the fields of each segment in range, capacitance and weight 0 where there is no sink, and lowest ≤ highest < count of widths of its layer?
-// Each segment is read once.
-pub fn segments_fit(job: &[u8], counts: Counts, start: usize, count: usize) -> bool
-    requires { ⌜ HasRun (now job) start count × (counts .layer0 ≤ counts .widths) ⌝ }
-    ensures { λ r. ⌜ r ≡ every count (segmentFits (now (job .entry)) counts start) ⌝ }
+// And has each segment a sink, or branches? Where it has none, the first segment at its far end is the one past the last. Each segment is read once
+// for both; fields that do not fit end the loop, since question 10 is asked first.
+pub fn segments_fit(
+    job: &[u8],
+    counts: Counts,
+    first: &[usize],
+    start: usize,
+    count: usize,
+) -> SegmentTests
+    requires { ⌜ HasRun (now job) start count × (counts .layer0 ≤ counts .widths) × (count < length (now first)) ⌝ }
+    ensures fields { λ r. ⌜ r .fields ≡ every count (segmentFits (now (job .entry)) counts start) ⌝ }
+    ensures ends { λ r. ⌜ (r .fields ≡ true → r .ends ≡ every count (sinkOrBranch (now (job .entry)) (now (first .entry)) start count)) ⌝ }
 {
+    let mut ends = true;
     for k in 0..count {
         let sink = byte_of(job, start, 3, k);
         let length = word_of(job, start, 4, k);
@@ -212,26 +212,19 @@ pub fn segments_fit(job: &[u8], counts: Counts, start: usize, count: usize) -> b
         let range = (lowest <= highest) & (highest < widths);
         let passed = within & (none & range);
         if !passed {
-            return false;
+            return SegmentTests {
+                fields: false,
+                ends: false,
+            };
         }
-    }
-    true
-}
-
-// Has each segment a sink, or branches? Where it has none, the first segment at its far end is the one past the last.
-pub fn sinks_or_branches(job: &[u8], first: &[usize], start: usize, count: usize) -> bool
-    requires { ⌜ HasRun (now job) start count × (count < length (now first)) ⌝ }
-    ensures { λ r. ⌜ r ≡ every count (sinkOrBranch (now (job .entry)) (now (first .entry)) start count) ⌝ }
-{
-    for k in 0..count {
-        let sink = byte_of(job, start, 3, k);
         let branch = first[k + 1];
-        let passed = (sink != 0) | (branch < count);
-        if !passed {
-            return false;
-        }
+        let ended = (sink != 0) | (branch < count);
+        ends = ended & ends;
     }
-    true
+    SegmentTests {
+        fields: true,
+        ends: ends,
+    }
 }
 
 // Is segment i one of n, and has it branches?

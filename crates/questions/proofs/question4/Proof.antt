@@ -22,17 +22,17 @@ numbers-in-order-requires-3 c κs = search needs
 numbers-in-order-requires-4 : tie.Need-numbers-in-order-requires-4
 numbers-in-order-requires-4 c κs = search needs
 
-add-numbers-in-order : tie.Need-add-numbers-in-order
-add-numbers-in-order c = search needs
-
-numbers-in-order-requires-5 : tie.Need-numbers-in-order-requires-5
-numbers-in-order-requires-5 c κs = search needs
-
 add-start : tie.Need-add-start
 add-start c = search needs
 
 add-start-2 : tie.Need-add-start-2
 add-start-2 c = search needs
+
+numbers-in-order-requires-5 : tie.Need-numbers-in-order-requires-5
+numbers-in-order-requires-5 c κs = search needs
+
+add-numbers-in-order : tie.Need-add-numbers-in-order
+add-numbers-in-order c = search needs
 
 numbers-in-order-requires-6 : tie.Need-numbers-in-order-requires-6
 numbers-in-order-requires-6 c κs = search needs
@@ -44,8 +44,8 @@ returns c =
     (c .before .before .before .before .before .before .numbers-in-order2 .ensures)
     (c .before .before .before .before .before .numbers-in-order3 .ensures)
     (c .before .before .before .before .numbers-in-order4 .ensures)
-    (c .before .before .numbers-in-order5 .ensures)
     (c .numbers-in-order6 .ensures)
+    (c .before .before .numbers-in-order5 .ensures)
 
 pub question4-spec : {M : Type 1} → statement M
 question4-spec =
@@ -57,9 +57,9 @@ question4-spec =
     numbers-in-order-requires-2
     numbers-in-order-requires-3
     numbers-in-order-requires-4
-    add-numbers-in-order
-    numbers-in-order-requires-5
     add-start
     add-start-2
+    numbers-in-order-requires-5
+    add-numbers-in-order
     numbers-in-order-requires-6
     returns)

@@ -21,34 +21,11 @@ returns-2 c =
     let a = c .before .before in
     yes _ _ (a .before .question7 .ensures) (a .if1 .left) (no _ _ (c .before .question8 .ensures) (c .if2 .taken))
 
-question9-requires : tie.Need-question9-requires
-question9-requires c κs = search needs
-
 returns-3 : tie.Need-returns-3
 unfolding questionsFrom7
 returns-3 c =
-    let b = c .before .before in
-    let a = b .before .before in
-    yes _ _ (a .before .question7 .ensures) (a .if1 .left) (yes _ _ (b .before .question8 .ensures) (b .if2 .left) (no _ _ (c .before .question9 .ensures) (c .if3 .taken)))
-
-question10-requires : tie.Need-question10-requires
-question10-requires c κs = search needs
-
-returns-4 : tie.Need-returns-4
-unfolding questionsFrom7
-returns-4 c =
-    let d = c .before .before in
-    let b = d .before .before in
-    let a = b .before .before in
-    yes _ _ (a .before .question7 .ensures) (a .if1 .left) (yes _ _ (b .before .question8 .ensures) (b .if2 .left) (yes _ _ (d .before .question9 .ensures) (d .if3 .left) (no _ _ (c .before .question10 .ensures) (c .if4 .taken))))
-
-returns-5 : tie.Need-returns-5
-unfolding questionsFrom7
-returns-5 c =
-    let d = c .before .before in
-    let b = d .before .before in
-    let a = b .before .before in
-    yes _ _ (a .before .question7 .ensures) (a .if1 .left) (yes _ _ (b .before .question8 .ensures) (b .if2 .left) (yes _ _ (d .before .question9 .ensures) (d .if3 .left) (yes _ _ (c .before .question10 .ensures) (c .if4 .left) (none))))
+    let a = c .before .before in
+    yes _ _ (a .before .question7 .ensures) (a .if1 .left) (yes _ _ (c .before .question8 .ensures) (c .if2 .left) none)
 
 pub questions-from-7-spec : {M : Type 1} → statement M
 questions-from-7-spec =
@@ -58,8 +35,4 @@ questions-from-7-spec =
     returns
     question8-requires
     returns-2
-    question9-requires
-    returns-3
-    question10-requires
-    returns-4
-    returns-5)
+    returns-3)
