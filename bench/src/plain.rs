@@ -97,6 +97,12 @@ fn word(record: &Record, at: usize) -> u64 {
     u32::from_le_bytes([record[at], record[at + 1], record[at + 2], record[at + 3]]).into()
 }
 
+/// The records of a kind that stand in front, and those behind them.
+fn run(records: &[Record], kind: u8) -> (&[Record], &[Record]) {
+    let end = records.iter().position(|r| r[0] != kind);
+    records.split_at(end.unwrap_or(records.len()))
+}
+
 /// Is a byte from `least` to `most` in each record, and does it never fall from one to the next?
 fn climbs(records: &[Record], at: usize, least: u8, most: u8) -> bool {
     let mut before = least;
@@ -151,18 +157,14 @@ fn check<'a>(job: &'a [u8], links: &mut Links) -> Result<Net<'a>, usize> {
     if job.is_empty() || !rest.is_empty() {
         return Err(1);
     }
-    if !climbs(records, 0, 1, 5) {
+    let (widths, records) = run(records, 1);
+    let (sizes, records) = run(records, 2);
+    let (stages, records) = run(records, 3);
+    let (segments, records) = run(records, 4);
+    let (repeaters, records) = run(records, 5);
+    if !records.is_empty() {
         return Err(2);
     }
-    let mut counts = [0usize; 6];
-    for record in records {
-        counts[usize::from(record[0])] += 1;
-    }
-    let [_, widths, sizes, stages, segments, _] = counts;
-    let (widths, records) = records.split_at(widths);
-    let (sizes, records) = records.split_at(sizes);
-    let (stages, records) = records.split_at(stages);
-    let (segments, repeaters) = records.split_at(segments);
     let (first, second) = widths.split_at(widths.iter().filter(|r| r[2] == 0).count());
     let top = u8::from(!second.is_empty());
     if !(climbs(widths, 2, 0, 1) && segments.iter().all(|r| r[15] <= top)) {
@@ -202,20 +204,19 @@ fn check<'a>(job: &'a [u8], links: &mut Links) -> Result<Net<'a>, usize> {
     if !ranges_within(stages, 2, sizes.len()) || stages[0][2] != stages[0][3] {
         return Err(8);
     }
-    if !segments.iter().enumerate().all(|(i, r)| usize::from(r[2]) <= i) {
+    if !links.fill(segments) {
         return Err(9);
     }
     let layers = [first, second];
-    if !segments.iter().all(|r| fits(r, &layers)) {
-        return Err(10);
-    }
-    links.fill(segments);
     let without = segments.len();
-    if !segments
-        .iter()
-        .zip(&links.first[1..])
-        .all(|(r, &child)| r[3] != 0 || child < without)
-    {
+    let mut ends = true;
+    for (segment, &child) in segments.iter().zip(&links.first[1..]) {
+        if !fits(segment, &layers) {
+            return Err(10);
+        }
+        ends &= segment[3] != 0 || child < without;
+    }
+    if !ends {
         return Err(11);
     }
     if !links.sited(repeaters, without) {
@@ -241,14 +242,19 @@ impl Links {
         }
     }
 
-    fn fill(&mut self, segments: &[Record]) {
+    /// Links the segments, from the last to the first; false where the parent byte of one is above its own number.
+    fn fill(&mut self, segments: &[Record]) -> bool {
         let n = segments.len();
         self.first[..=n].fill(n);
         for (j, record) in segments.iter().enumerate().rev() {
             let node = usize::from(record[2]);
+            if node > j {
+                return false;
+            }
             self.next[j] = self.first[node];
             self.first[node] = j;
         }
+        true
     }
 
     /// Is the segment of each repeater one of the n, has it branches, and do the segment numbers strictly rise? `before` is the
