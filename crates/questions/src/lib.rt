@@ -74,7 +74,8 @@ fn question3(counts: Counts) -> bool
     first & (second & (sizes & (stages & (segments & repeaters))))
 }
 
-// Question 4: do numbers count from 0 in each kind, those of widths in each layer?
+// Question 4: do numbers count from 0 in each kind, those of widths in each layer? The segments come last, so that the compiler keeps no answer
+// while it goes through the longest run.
 fn question4(job: &[u8], counts: Counts) -> bool
     requires { ⌜ Held counts (now job) ⌝ }
     ensures { λ r. ⌜ r ≡ question4 counts (now (job .entry)) ⌝ }

@@ -1,5 +1,5 @@
 // Tests of each record of a run, and the counts of records by kind and of the widths by layer. A run is `count` records from the record `start`
-// on. A test that fails ends its loop.
+// on. A test that fails ends its loop, but for that of the far ends of segments, which goes along with another.
 use net::Counts;
 ghost use mathlib.Core.Path.{_≡_};
 ghost use mathlib.Core.Bool.{true, _&&_};
