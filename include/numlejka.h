@@ -51,9 +51,9 @@
  * Threads. The library keeps no state and allocates nothing. Any number of calls may run at the same time, as long as
  * nothing writes to a buffer that a running call reads, and nothing uses a buffer that a running call writes to.
  *
- * Stack. A call needs at most 32 KiB of stack. Measured on painted stacks, on x86-64 Linux, with a chain of 64 segments
- * behind 4 stages and 16 places free, the deepest net and the deepest search that there are: measure and choose 24 KiB,
- * size 15 KiB, refine 6 KiB. The rest is margin; it covers what the dynamic linker may use when the C library's memcpy is
+ * Stack. A call needs at most 24 KiB of stack. Measured on painted stacks, on x86-64 Linux, with a chain of 64 segments
+ * behind 4 stages and 16 places free, the deepest net and the deepest search that there are: size 16 KiB, measure and
+ * choose 14 KiB, refine 6 KiB. The rest is margin; it covers what the dynamic linker may use when the C library's memcpy is
  * called for the first time (3 KiB more). tests/tests/stack.rs measures it again.
  *
  * Time. A call ends on every input. How long it takes depends on the job and is not promised.

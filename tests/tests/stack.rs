@@ -9,7 +9,7 @@ use numlejka_tests::interface::{choose, measure, refine, size};
 use numlejka_tests::plan::{Plan, segment_with_sink};
 
 /// What the header says to be enough for a call.
-const ENOUGH: usize = 32 * 1024;
+const ENOUGH: usize = 24 * 1024;
 
 /// The length of a painted stack, and the paint.
 const LENGTH: usize = 256 * 1024;
