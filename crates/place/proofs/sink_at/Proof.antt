@@ -4,7 +4,6 @@ use Prim.Native.Nat.{_-_}
 use native.Mathlib.Omega.{arith}
 use Rattle.job.proofs.Ranges.{wire-range}
 use Rattle.place.proofs.Steps.{driver-sink, wire-sink}
-use borrow.Author.Needs.{needs}
 use Rattle.place.proofs.sink_at.Statement.{statement}
 use Rattle.place.proofs.sink_at.Tie as tie
 

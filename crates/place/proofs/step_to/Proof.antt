@@ -4,7 +4,6 @@ use Prim.Native.Nat.{_+_, _-_}
 use native.Mathlib.Omega.{arith}
 use Rattle.job.proofs.Ranges.{wire-range}
 use Rattle.place.proofs.Steps.{size-at, width-at, driver-step-of, rows-segment, length-segment}
-use borrow.Author.Needs.{needs}
 use Rattle.place.proofs.step_to.Statement.{statement}
 use Rattle.place.proofs.step_to.Tie as tie
 

@@ -5,7 +5,6 @@ use native.Mathlib.Omega.{arith}
 use Rattle.net.specs.Net.{netBy}
 use Rattle.job.proofs.Ranges.{wire-range}
 use Rattle.place.proofs.Steps.{by-size, by-segment}
-use borrow.Author.Needs.{needs}
 use Rattle.weights.proofs.sink_weight.Statement.{statement}
 use Rattle.weights.proofs.sink_weight.Tie as tie
 
