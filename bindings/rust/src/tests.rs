@@ -68,16 +68,19 @@ fn j3() -> Vec<u8> {
     with_one_segment(10, 5, 0)
 }
 
-fn j4() -> Vec<u8> {
-    job(&[
+/// A job with the tables of J4, two widths and two driver sizes, and the records behind them.
+fn with_two_of_each(places: &[Record]) -> Vec<u8> {
+    let tables = [
         width(0, 4, 2),
         width(1, 2, 3),
         driver(0, 10, 3, 1),
         driver(1, 5, 7, 1),
-        stage(0, 0, 0),
-        stage(1, 0, 1),
-        segment(0, 0, 1, 4, 1, 1),
-    ])
+    ];
+    [job(&tables), job(places)].concat()
+}
+
+fn j4() -> Vec<u8> {
+    with_two_of_each(&[stage(0, 0, 0), stage(1, 0, 1), segment(0, 0, 1, 4, 1, 1)])
 }
 
 fn j5() -> Vec<u8> {
@@ -93,11 +96,7 @@ fn j5() -> Vec<u8> {
 
 /// One stage, a segment with a sink and a repeater behind it, and a branch behind that.
 fn with_repeater() -> Vec<u8> {
-    job(&[
-        width(0, 4, 2),
-        width(1, 2, 3),
-        driver(0, 10, 3, 1),
-        driver(1, 5, 7, 1),
+    with_two_of_each(&[
         stage(0, 0, 0),
         segment(0, 0, 1, 5, 1, 0),
         segment(1, 1, 1, 4, 1, 1),

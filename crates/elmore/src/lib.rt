@@ -182,8 +182,8 @@ fn put_part(parts: &mut [u64; 24], r: usize, p: Part)
 }
 
 // Segment i and all below it. Where nothing is below it no call is made, because half of a tree's segments are such; where a repeater sits at its far
-// end, what hangs there is in the table, and the branches behind it are not walked. A call passes tables and neither job nor sizing, because each
-// segment has one: what it counts up is that of each job and sizing with these tables, and there is one.
+// end, what hangs there is in the table, and the branches behind it are not walked. A call passes tables and neither job nor sizing, because it would
+// copy both at each segment: what it counts up is that of each job and sizing with these tables, and there is one.
 fn branch(
     n: usize,
     segments: &[u64; 256],

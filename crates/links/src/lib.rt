@@ -21,7 +21,7 @@ fn unlink(first: &mut [usize], n: usize)
 }
 
 // The first segment at each node and the next sibling of each segment: from the last segment down, each goes before the first at its node. Each
-// parent is read here, so question 9 is asked here too: a segment that hangs behind itself ends the loop, and what the tables hold then says nothing.
+// parent is read here, so question 9 is asked here too: a parent byte above the segment's own number ends the loop, and what the tables hold then says nothing.
 pub fn link(job: &[u8], counts: Counts, first: &mut [usize], next: &mut [usize]) -> bool
     requires { ⌜ Held counts (now job) ⌝ }
     requires { ⌜ (counts .segments < length (now first)) × (counts .segments ≤ length (now next)) ⌝ }

@@ -238,7 +238,7 @@ fn questions_from_24(job: &[u8], counts: Counts) -> usize
     questions_from_7(job, counts)
 }
 
-// A job of n records that fails a question before they are counted by kind.
+// A job of n records that fails a question, where no counts by kind are handed on.
 fn uncounted(number: usize, n: usize) -> Outcome
     ensures { λ r. ⌜ (r .number ≡ number) × (r .records ≡ n) ⌝ }
 {

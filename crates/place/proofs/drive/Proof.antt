@@ -8,7 +8,7 @@ use Rattle.net.specs.Job.{placesBy}
 use Rattle.net.specs.Driving.{loadAt}
 use Rattle.net.specs.Order.{placedBy, drivingBy}
 use Rattle.net.proofs.InOrder.{allowed-by, placed, inLimits}
-use Rattle.place.proofs.Loads.{loads, loads-set, loads-at}
+use Rattle.place.proofs.Loads.{loads, loads-set, loads-at, drives-is}
 use borrow.Author.Needs.{needs}
 use Rattle.place.proofs.Steps.{place-at, shown-same, shown-by}
 use Rattle.place.proofs.Driving.{Driven, driving-start, drives-small, gathers-small, driving-free, driving-held}
@@ -144,10 +144,8 @@ shown-load-requires c κs =
     let h : t < placesBy (b .args .counts) = omega (arith, l .inv .1, c .before .before .before .before .before .before .before .before .loop-test .taken) in
     let e : l .t ≡ suc t = omega (arith, c .before .before .before .before .before .before .before .before .loop-test .taken) in
     let i = rw e at (l .inv .0) in
-    let z : t + 1 ≡ suc t = omega arith in
     let q = ap (placedBy (b .args .counts) (b .args .job .now) .sink) (b .pre .1 .0 .held t h) in
-    let v : c .before .before .before .before .add-capacitance .result .0 ≡ (drivingBy (b .args .counts) (b .args .job .now)) .sink t + at (loads (l .gathered)) (suc t) =
-    rw (← z) (c .before .before .before .before .add-capacitance .ensures .0 ∙ ap (λ (w : ℕ). c .before .before .before .before .before .before .sink-at .result .0 + w) (loads-at (l .gathered) (t + 1)) ∙ ap (λ (w : ℕ). w + at (loads (l .gathered)) (t + 1)) (c .before .before .before .before .before .before .sink-at .ensures .0 ∙ q)) in (
+    let v = drives-is (l .gathered) t _ _ _ (c .before .before .before .before .before .before .sink-at .ensures .0 ∙ q) (c .before .before .before .before .add-capacitance .ensures .0) in (
       k,
       (
         place-at k (b .pre .1 .0) t h,
@@ -209,10 +207,8 @@ add-capacitance-requires-2 c κs =
     let i = rw e at (l .inv .0) in
     let g = b .pre .1 .1 .0 .held t h in
     let f = placed k .falls t h in
-    let z : t + 1 ≡ suc t = omega arith in
     let q = ap (placedBy (b .args .counts) (b .args .job .now) .sink) (b .pre .1 .0 .held t h) in
-    let v : c .before .before .before .before .before .before .before .add-capacitance .result .0 ≡ (drivingBy (b .args .counts) (b .args .job .now)) .sink t + at (loads (l .gathered)) (suc t) =
-    rw (← z) (c .before .before .before .before .before .before .before .add-capacitance .ensures .0 ∙ ap (λ (w : ℕ). c .before .before .before .before .before .before .before .before .before .sink-at .result .0 + w) (loads-at (l .gathered) (t + 1)) ∙ ap (λ (w : ℕ). w + at (loads (l .gathered)) (t + 1)) (c .before .before .before .before .before .before .before .before .before .sink-at .ensures .0 ∙ q)) in
+    let v = drives-is (l .gathered) t _ _ _ (c .before .before .before .before .before .before .before .before .before .sink-at .ensures .0 ∙ q) (c .before .before .before .before .before .before .before .add-capacitance .ensures .0) in
     let m = drives-small (drivingBy (b .args .counts) (b .args .job .now)) (placed k) (inLimits k) (b .args .lower .now) (b .args .upper .now) (b .pre .1 .1 .1 .0) t h (l .driven) (loads (l .gathered)) i in
     let j = allowed-by (drivingBy (b .args .counts) (b .args .job .now)) (b .args .lower .now) .0 (b .pre .1 .1 .1 .0) .high t h in
     let y = ap (λ (p : ℕ). loadAt (placedBy (b .args .counts) (b .args .job .now)) p (at (b .args .lower .now) t) (c .before .before .before .before .before .before .before .add-capacitance .result .0)) (b .pre .1 .0 .held t h) in
@@ -257,10 +253,8 @@ loop-again c =
     let h : t < placesBy (b .args .counts) = omega (arith, l .inv .1, c .before .before .before .before .before .before .before .before .before .before .before .before .loop-test .taken) in
     let e : l .t ≡ suc t = omega (arith, c .before .before .before .before .before .before .before .before .before .before .before .before .loop-test .taken) in
     let i = rw e at (l .inv .0) in
-    let z : t + 1 ≡ suc t = omega arith in
     let q = ap (placedBy (b .args .counts) (b .args .job .now) .sink) (b .pre .1 .0 .held t h) in
-    let v : c .before .before .before .before .before .before .before .before .add-capacitance .result .0 ≡ (drivingBy (b .args .counts) (b .args .job .now)) .sink t + at (loads (l .gathered)) (suc t) =
-    rw (← z) (c .before .before .before .before .before .before .before .before .add-capacitance .ensures .0 ∙ ap (λ (w : ℕ). c .before .before .before .before .before .before .before .before .before .before .sink-at .result .0 + w) (loads-at (l .gathered) (t + 1)) ∙ ap (λ (w : ℕ). w + at (loads (l .gathered)) (t + 1)) (c .before .before .before .before .before .before .before .before .before .before .sink-at .ensures .0 ∙ q)) in
+    let v = drives-is (l .gathered) t _ _ _ (c .before .before .before .before .before .before .before .before .before .before .sink-at .ensures .0 ∙ q) (c .before .before .before .before .before .before .before .before .add-capacitance .ensures .0) in
     let g = b .pre .1 .1 .0 .held t h in
     let y = ap (λ (p : ℕ). loadAt (placedBy (b .args .counts) (b .args .job .now)) p (at (b .args .lower .now) t) (c .before .before .before .before .before .before .before .before .add-capacitance .result .0)) (b .pre .1 .0 .held t h) in (
       rw (loads-set (l .gathered) (at (b .args .hangs .now) t) (c .add-capacitance2 .result), g)
@@ -281,10 +275,8 @@ loop-again-2 c =
     let h : t < placesBy (b .args .counts) = omega (arith, l .inv .1, c .before .before .before .before .before .before .before .loop-test .taken) in
     let e : l .t ≡ suc t = omega (arith, c .before .before .before .before .before .before .before .loop-test .taken) in
     let i = rw e at (l .inv .0) in
-    let z : t + 1 ≡ suc t = omega arith in
     let q = ap (placedBy (b .args .counts) (b .args .job .now) .sink) (b .pre .1 .0 .held t h) in
-    let v : c .before .before .before .add-capacitance .result .0 ≡ (drivingBy (b .args .counts) (b .args .job .now)) .sink t + at (loads (l .gathered)) (suc t) =
-    rw (← z) (c .before .before .before .add-capacitance .ensures .0 ∙ ap (λ (w : ℕ). c .before .before .before .before .before .sink-at .result .0 + w) (loads-at (l .gathered) (t + 1)) ∙ ap (λ (w : ℕ). w + at (loads (l .gathered)) (t + 1)) (c .before .before .before .before .before .sink-at .ensures .0 ∙ q)) in
+    let v = drives-is (l .gathered) t _ _ _ (c .before .before .before .before .before .sink-at .ensures .0 ∙ q) (c .before .before .before .add-capacitance .ensures .0) in
     (driving-free (drivingBy (b .args .counts) (b .args .job .now)) (placed k) (inLimits k) (b .args .lower .now) (b .args .upper .now) (b .pre .1 .1 .1 .0) t h (l .driven) (loads (l .gathered)) i _ v (omega (arith, c .if1 .left)), omega (arith, l .inv .1))
 
 returns : tie.Need-returns Inv-loop μ-loop
