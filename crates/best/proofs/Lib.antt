@@ -1,1 +1,5 @@
+pub mod AtPlace
+pub mod ByPosition
+pub mod Drivers
+pub mod Path
 pub mod Reaching

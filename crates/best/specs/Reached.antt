@@ -1,4 +1,4 @@
--- What refining a place comes to, by position and by place: cited by the contracts of inner functions.
+-- What refining a place comes to: cited by the contracts of inner functions.
 use mathlib.Core.Path.{_≡_}
 use mathlib.Core.List.{List}
 use Prim.Native.Nat.{ℕ}
@@ -9,8 +9,6 @@ use Rattle.net.specs.declared.Counts.{Counts}
 use Rattle.net.specs.Net.{netBy}
 use Rattle.net.specs.Delay.{delay}
 use Rattle.net.specs.Sizings.{allowed}
-use Rattle.net.specs.Driving.{allowedBy, delayBy}
-use Rattle.net.specs.Order.{drivingBy}
 use Rattle.best.specs.declared.EndsAndDelay.{EndsAndDelay}
 
 -- r has the smallest and the largest best index at place p of x, the rest held, and the delay of x with the smallest put there.
@@ -19,9 +17,6 @@ pub record ReachedAt (sp : Space) (D : List ℕ → ℕ) (x : List ℕ) (p : ℕ
   pub largest : r .highest ≡ bestAbove sp D x p
   pub reached : r .delay .0 ≡ D (set x p (bestBelow sp D x p))
 
--- The same of the net of a job, by position and by place.
-abbrev pub ReachedInOrder : Counts → (b x : List ℕ) → ℕ → EndsAndDelay → Type 0
-ReachedInOrder c b x t r = ReachedAt (allowedBy (drivingBy c b)) (delayBy (drivingBy c b)) x t r
-
+-- The same of the net of a job.
 abbrev pub ReachedBy : Counts → (b x : List ℕ) → ℕ → EndsAndDelay → Type 0
 ReachedBy c b x p r = ReachedAt (allowed (netBy c b)) (delay (netBy c b)) x p r

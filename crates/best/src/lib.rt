@@ -2,12 +2,18 @@
 use net::Counts;
 use quantity::Capacitance;
 use quantity::Delay;
+use quantity::Resistance;
+ghost use mathlib.Core.Path.{_≡_};
 ghost use Prim.Native.Nat.{_<_};
 ghost use Rattle.net.specs.Job.{placesBy};
-ghost use Rattle.net.specs.Checked.{Checked, AllowedBy, ForPlaces};
-ghost use Rattle.positions.specs.Arranged.{PlacesInOrder, PositionsOf, NodesOf};
-ghost use Rattle.place.specs.ByCounts.{AllowedInOrder};
-ghost use Rattle.best.specs.Reached.{ReachedInOrder, ReachedBy};
+ghost use Rattle.net.specs.Net.{netBy};
+ghost use Rattle.net.specs.Checked.{Checked, AllowedBy};
+ghost use Rattle.net.specs.Order.{placedBy};
+ghost use Rattle.stages.specs.Ready.{Ready};
+ghost use Rattle.parts.specs.Seats.{Seated};
+ghost use Rattle.nodes.specs.Counted.{Counted};
+ghost use Rattle.best.specs.Reached.{ReachedBy};
+ghost use Rattle.best.specs.Around.{WeightsCounted, Drives, DrivenAt, UpstreamOf};
 
 // The smallest and the largest best index at a place, and the scaled delay of the sizing with either of them put there.
 pub struct EndsAndDelay {
@@ -16,87 +22,132 @@ pub struct EndsAndDelay {
     pub delay: Delay,
 }
 
-// The best indices at a position of an allowed sizing by position, and the scaled delay that they reach. With the index at the position the delay
-// changes as what the index costs there, so the net is not evaluated for each.
-fn refine_in_order(
-    job: &[u8],
-    counts: Counts,
-    order: &[usize; 76],
-    hangs: &[usize; 76],
-    held: &[u8],
-    t: usize,
-) -> EndsAndDelay
+// The place that drives place p, which is not the first stage. A segment is driven by the last stage where it hangs at the source, and otherwise by
+// the repeater at the far end that it hangs at, or by the segment there.
+fn drives(job: &[u8], counts: Counts, seats: &[u8; 64], p: usize) -> usize
     requires { ⌜ Checked counts (now job) ⌝ }
-    requires { ⌜ PlacesInOrder counts (now job) (now order) ⌝ }
-    requires { ⌜ NodesOf counts (now job) (now hangs) ⌝ }
-    requires { ⌜ AllowedInOrder counts (now job) (now held) ⌝ }
-    requires { ⌜ t < placesBy counts ⌝ }
-    ensures { λ r. ⌜ ReachedInOrder counts (now (job .entry)) (now (held .entry)) t r ⌝ }
+    requires { ⌜ Seated (netBy counts (now job)) (now seats) ⌝ }
+    requires { ⌜ (0 < p) × (p < placesBy counts) ⌝ }
+    ensures { λ r. ⌜ Drives counts (now (job .entry)) p r ⌝ }
 {
-    let mut weights = [0u64; 76];
-    weights::weigh(job, counts, order, hangs, &mut weights);
-    // loads, by position
-    let mut driven = [0u64; 76];
-    let lent = place::drive_and_add(job, counts, order, hangs, &weights, held, held, &mut driven);
-    let before = place::upstream_on_path(job, counts, order, hangs, &weights, held, t);
-    let p = order[t];
-    let weight = weights[t];
-    let load = Capacitance(driven[t]);
-    let ends = refine::settle(job, counts, weight, before, p, load);
-    let own = place::step_at(job, counts, weight, before, p, held[t], load).delay;
-    EndsAndDelay {
-        lowest: ends.lowest,
-        highest: ends.highest,
-        delay: quantity::exchange(lent, own, ends.cost),
+    if p < counts.stages {
+        return p - 1;
     }
+    let i = p - counts.stages;
+    if counts.segments <= i {
+        return counts.stages + job::site(job, counts, i - counts.segments);
+    }
+    let node = job::parent(job, counts, i);
+    if node == 0 {
+        return counts.stages - 1;
+    }
+    let r = job::index(seats[node - 1]);
+    if r < 8 {
+        return counts.stages + counts.segments + r;
+    }
+    counts.stages + (node - 1)
 }
 
-// The same at a place of an allowed sizing, where the tables of the driving order are filled; `held` is lent for the sizing by position.
-fn refine_rearranged(
+// The weight of place p: of a segment that of the sinks at or below its far end, of a driver twice that of the sinks that it drives.
+fn weight_at(job: &[u8], counts: Counts, nodes: &[u64; 195], p: usize) -> u64
+    requires { ⌜ Checked counts (now job) ⌝ }
+    requires { ⌜ WeightsCounted (netBy counts (now job)) (now nodes) ⌝ }
+    requires { ⌜ p < placesBy counts ⌝ }
+    ensures { λ r. ⌜ r ≡ placedBy counts (now (job .entry)) .weight p ⌝ }
+{
+    if p < counts.stages {
+        return 2 * parts::part_at(nodes, 0).weight;
+    }
+    let i = p - counts.stages;
+    if i < counts.segments {
+        return job::weight(job, counts, i) + parts::part_at(nodes, i + 1).weight;
+    }
+    let site = job::site(job, counts, i - counts.segments);
+    2 * parts::part_at(nodes, site + 1).weight
+}
+
+// The load that place p drives.
+fn driven_at(
     job: &[u8],
     counts: Counts,
-    order: &[usize; 76],
-    position: &[usize; 76],
-    hangs: &[usize; 76],
     sizing: &[u8],
-    held: &mut [u8],
-    place: usize,
-) -> EndsAndDelay
-    requires { ⌜ Checked counts (now job) ⌝ }
-    requires { ⌜ PlacesInOrder counts (now job) (now order) ⌝ }
-    requires { ⌜ PositionsOf counts (now job) (now position) ⌝ }
-    requires { ⌜ NodesOf counts (now job) (now hangs) ⌝ }
-    requires { ⌜ AllowedBy counts (now job) (now sizing) ⌝ }
-    requires { ⌜ ForPlaces counts (now held) ⌝ }
-    requires { ⌜ place < placesBy counts ⌝ }
-    ensures { λ r. ⌜ ReachedBy counts (now (job .entry)) (now (sizing .entry)) place r ⌝ }
+    seats: &[u8; 64],
+    nodes: &[u64; 195],
+    p: usize,
+) -> Capacitance
+    requires { ⌜ Ready counts (now job) (now sizing) ⌝ }
+    requires { ⌜ Seated (netBy counts (now job)) (now seats) ⌝ }
+    requires { ⌜ Counted (netBy counts (now job)) (now sizing) (now nodes) ⌝ }
+    requires { ⌜ p < placesBy counts ⌝ }
+    ensures { λ r. ⌜ DrivenAt counts (now (job .entry)) (now (sizing .entry)) p (r .0) ⌝ }
 {
-    positions::rearrange(sizing, order, held);
-    let t = position[place];
-    refine_in_order(job, counts, order, hangs, held, t)
+    if p < counts.stages {
+        let tree = parts::part_at(nodes, 0);
+        return stages::stage_load(job, counts, sizing, tree.load, p);
+    }
+    let i = p - counts.stages;
+    if i < counts.segments {
+        let below = parts::part_at(nodes, i + 1);
+        let hangs = nodes::hanging(job, counts, sizing, seats, i, below);
+        return quantity::add_capacitance(job::sink(job, counts, i), hangs.load);
+    }
+    let site = job::site(job, counts, i - counts.segments);
+    let behind = parts::part_at(nodes, site + 1);
+    behind.load
 }
 
-// The same, where the places are put in order first.
+// The weighted resistance upstream of place p: along the path to the driver before it, and no further.
+fn upstream_of(
+    job: &[u8],
+    counts: Counts,
+    sizing: &[u8],
+    seats: &[u8; 64],
+    nodes: &[u64; 195],
+    p: usize,
+) -> Resistance
+    requires { ⌜ Checked counts (now job) ⌝ }
+    requires { ⌜ AllowedBy counts (now job) (now sizing) ⌝ }
+    requires { ⌜ Seated (netBy counts (now job)) (now seats) ⌝ }
+    requires { ⌜ WeightsCounted (netBy counts (now job)) (now nodes) ⌝ }
+    requires { ⌜ p < placesBy counts ⌝ }
+    ensures { λ r. ⌜ UpstreamOf counts (now (job .entry)) (now (sizing .entry)) p (r .0) ⌝ }
+{
+    let mut sum = Resistance(0);
+    let mut a = p;
+    while a > 0 {
+        a = drives(job, counts, seats, a);
+        let weight = weight_at(job, counts, nodes, a);
+        sum = quantity::add_resistance(sum, place::slope(job, counts, weight, a, sizing[a]));
+        if job::is_driver(counts, a) {
+            return sum;
+        }
+    }
+    sum
+}
+
+// The best indices at a place of an allowed sizing, and the delay that they reach. With the index at the place the delay changes as what the index
+// costs there, so the net is not evaluated for each.
 pub fn refine_at(job: &[u8], counts: Counts, sizing: &[u8], place: usize) -> EndsAndDelay
     requires { ⌜ Checked counts (now job) ⌝ }
     requires { ⌜ AllowedBy counts (now job) (now sizing) ⌝ }
     requires { ⌜ place < placesBy counts ⌝ }
     ensures { λ r. ⌜ ReachedBy counts (now (job .entry)) (now (sizing .entry)) place r ⌝ }
 {
-    let mut order = [0usize; 76];
-    let mut position = [0usize; 76];
-    let mut hangs = [0usize; 76];
-    positions::arrange(job, counts, &mut order, &mut position, &mut hangs);
-    let places = counts.stages + counts.segments + counts.repeaters;
-    let mut held = [0u8; 76];
-    refine_rearranged(
-        job,
-        counts,
-        &order,
-        &position,
-        &hangs,
-        sizing,
-        &mut held[..places],
-        place,
-    )
+    // by segment the repeater at its far end; 8 where there is none, because there are at most eight
+    let mut seats = [8u8; 64];
+    parts::seat(job, counts, &mut seats);
+    let mut nodes = [0u64; 195];
+    nodes::count_up(job, counts, sizing, &seats, &mut nodes);
+    let source = parts::part_at(&nodes, 0);
+    let lent = parts::behind_stages(job, counts, sizing, source).delay;
+    let weight = weight_at(job, counts, &nodes, place);
+    let load = driven_at(job, counts, sizing, &seats, &nodes, place);
+    let before = upstream_of(job, counts, sizing, &seats, &nodes, place);
+    let ends = refine::settle(job, counts, weight, before, place, load);
+    let own = place::step_at(job, counts, weight, before, place, sizing[place], load).delay;
+    EndsAndDelay {
+        lowest: ends.lowest,
+        highest: ends.highest,
+        delay: quantity::exchange(lent, own, ends.cost),
+    }
 }

@@ -104,11 +104,11 @@ module _ (net : Driving) (o : Placed net) (s : Side) (x₀ : List ℕ) where
         here = getD-set-same upstream p v 0 (omega (arith, i .known .long))
 
         pub settle-asks : (at weights p ≤ 32640) × (v ≤ 496128000000) × (at driven p ≤ 13700000)
-        settle-asks = rw here at (figures-small net o l weights (set upstream p v) x w (i .swept .approaching .allowed) p (at driven p) few known-more (drives-yet driven d))
+        settle-asks = rw here at (figures-small net o l (set upstream p v) x (i .swept .approaching .allowed) p (at weights p) (at driven p) few (w .held p (omega arith) few) known-more (drives-yet driven d))
 
         pub settle-finds : (r : Ends) → Settled net (at weights p) v p (at driven p) r → EndsAt net x p r
         settle-finds r t =
-            settled-ends net o l weights (set upstream p v) x w (i .swept .approaching .allowed) p (at driven p) few known-more (drives-yet driven d) r (rw here t)
+            settled-ends net o l (set upstream p v) x (i .swept .approaching .allowed) p (at weights p) (at driven p) few (w .held p (omega arith) few) known-more (drives-yet driven d) r (rw here t)
 
       -- the end that is taken from s is put
       pub sweeping-step : (r : Ends) (b : ℕ) → Submodular (allowedBy net) (delayBy net) → EndsAt net x p r → b ≡ endFrom s r

@@ -15,15 +15,16 @@ use Rattle.net.proofs.Sum.{sum-suc}
 use Rattle.net.proofs.Questions.{ordered}
 use Rattle.links.specs.Links.{First, LinkedBy, siblings}
 use Rattle.links.proofs.Siblings.{first-behind}
-use Rattle.elmore.specs.declared.Segment.{Segment}
-use Rattle.elmore.specs.declared.Part.{Part}
-use Rattle.elmore.specs.declared.PartAndCharge.{PartAndCharge}
+use Rattle.parts.specs.declared.Segment.{Segment}
+use Rattle.parts.specs.declared.Part.{Part}
+use Rattle.parts.specs.declared.PartAndCharge.{PartAndCharge}
 use Rattle.stages.specs.Ready.{Ready}
-use Rattle.elmore.specs.Seats.{Seated}
-use Rattle.elmore.specs.Step.{Fields}
-use Rattle.elmore.specs.Tally.{branchesOf, Tally, Hanging, RepeatedOf}
-use Rattle.elmore.specs.Tables.{segmentAt, partAt, Put, SizedTo, PartsFrom, Tables, tables, TablesOf, OfSome, OfEach}
-use Rattle.elmore.proofs.Tallies.{node-tally, below-tally}
+use Rattle.parts.specs.Seats.{Seated}
+use Rattle.parts.specs.Step.{Fields}
+use Rattle.parts.specs.Tally.{branchesOf, Tally, Hanging, RepeatedOf}
+use Rattle.parts.specs.Entries.{partAt, Put}
+use Rattle.elmore.specs.Tables.{segmentAt, SizedTo, PartsFrom, Tables, tables, TablesOf, OfSome, OfEach}
+use Rattle.elmore.proofs.Passing.{node-tally, below-tally}
 
 module _ (net : Net) (x : List ℕ) where
   -- the segments: at first none is in the table, then one more
@@ -86,7 +87,7 @@ module _ {c : Counts} {job x : List ℕ} (ready : Ready c job x) {segments first
   tables-of : {parts : List ℕ} (t j : ℕ) → ((k : ℕ) → k < c .repeaters → j ≤ net .site k → t ≤ k) → PartsFrom net x t parts
       → TablesOf (with-parts parts) c job x j
   tables-of t j later p =
-      record { ready = ready; all = refl; sized = z; linked = l; seated = s; parted = λ r h m. p .held r (later r h m) h }
+      record { ready = ready; all = refl; sized = z; linked = l; seated = s; long = p .long; parted = λ r h m. p .held r (later r h m) h }
 
   -- a walk from the source, where all parts are in the table
   module _ {parts : List ℕ} (p : PartsFrom net x 0 parts) where

@@ -1,6 +1,4 @@
 pub mod Entries
 pub mod Filling
-pub mod Repeating
-pub mod Seating
-pub mod Tallies
+pub mod Passing
 pub mod Walking

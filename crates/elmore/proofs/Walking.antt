@@ -3,19 +3,22 @@ use mathlib.Core.Path.{_≡_}
 use mathlib.Core.List.{List}
 use Prim.Native.Nat.{ℕ, _+_, _≤_, _<_}
 use native.Mathlib.Omega.{arith}
+use lib.ListN.{length}
 use Rattle.lattice.specs.Lists.{at}
 use Rattle.net.specs.declared.Counts.{Counts}
 use Rattle.net.specs.Net.{netBy}
 use Rattle.net.proofs.Questions.{ordered, limited}
 use Rattle.links.specs.Links.{First, siblings}
 use Rattle.links.proofs.Siblings.{first-behind}
-use Rattle.elmore.specs.declared.Segment.{Segment}
-use Rattle.elmore.specs.declared.Part.{Part}
-use Rattle.elmore.specs.Step.{Empty, RoomBehind, Behind, RoomJoined, Joined}
-use Rattle.elmore.specs.Tally.{branchOf, Hanging}
-use Rattle.elmore.specs.Tables.{segmentAt, partAt, Tables, TablesOf, OfSome, OfEach}
-use Rattle.elmore.proofs.Seating.{seat-site, seat-none}
-use Rattle.elmore.proofs.Tallies.{below-tally, leaf-hanging, bare-hanging, behind-room, behind-tally, none-tally, Passed, passed-none, passed-all, joined-room, joined-passed}
+use Rattle.parts.specs.declared.Segment.{Segment}
+use Rattle.parts.specs.declared.Part.{Part}
+use Rattle.parts.specs.Step.{Empty, RoomBehind, Behind, RoomJoined, Joined}
+use Rattle.parts.specs.Tally.{branchOf, Hanging}
+use Rattle.parts.specs.Entries.{partAt}
+use Rattle.elmore.specs.Tables.{segmentAt, Tables, TablesOf, OfSome, OfEach}
+use Rattle.parts.proofs.Seating.{seat-site, seat-none}
+use Rattle.parts.proofs.Tallies.{bare-hanging, behind-room, behind-tally}
+use Rattle.elmore.proofs.Passing.{below-tally, leaf-hanging, none-tally, Passed, passed-none, passed-all, joined-room, joined-passed}
 
 -- u is what hangs at the far end of segment i
 pub record EachHanging (w : Tables) (i : ℕ) (u : Part) : Type 0 where
@@ -33,6 +36,7 @@ module _ {w : Tables} where
         ready = t .ready;
         all = t .all;
         sized = t .sized;
+        long = t .long;
         linked = t .linked;
         seated = t .seated;
         parted = λ r k m. t .parted r k (omega arith);
@@ -40,6 +44,9 @@ module _ {w : Tables} where
 
   pub some-later : (i j : ℕ) → i ≤ j → OfSome w i → OfSome w j
   some-later i j h s = record { counts = s .counts; job = s .job; sizing = s .sizing; held = of-later h (s .held) }
+
+  pub parts-long : {j : ℕ} → OfSome w j → length (w .parts) ≡ 24
+  parts-long s = s .held .long
 
   pub few : {j : ℕ} → OfSome w j → w .n ≤ 64
   few s = omega (arith, s .held .all, s .held .ready .checked .fewSegments)

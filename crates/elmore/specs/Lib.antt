@@ -1,4 +1,1 @@
-pub mod Seats
-pub mod Step
 pub mod Tables
-pub mod Tally

@@ -7,14 +7,15 @@ use Rattle.lattice.specs.Lists.{at}
 use Rattle.net.specs.declared.Counts.{Counts}
 use Rattle.net.specs.Net.{Net, netBy}
 use Rattle.links.specs.Links.{LinkedBy}
-use Rattle.elmore.specs.declared.Segment.{Segment}
-use Rattle.elmore.specs.declared.Part.{Part}
+use Rattle.parts.specs.declared.Segment.{Segment}
+use Rattle.parts.specs.declared.Part.{Part}
+use Rattle.parts.specs.Entries.{partAt}
 use Rattle.stages.specs.Ready.{Ready}
-use Rattle.elmore.specs.Step.{Fields}
-use Rattle.elmore.specs.Seats.{Seated}
-use Rattle.elmore.specs.Tally.{Tally, Hanging}
+use Rattle.parts.specs.Step.{Fields}
+use Rattle.parts.specs.Seats.{Seated}
+use Rattle.parts.specs.Tally.{Tally, Hanging}
 
--- Entry i of a table of segments, four numbers for each, and entry r of a table of parts, three for each.
+-- Entry i of a table of segments, four numbers for each.
 abbrev pub segmentAt : List ℕ → ℕ → Segment
 segmentAt t i =
     record {
@@ -22,15 +23,6 @@ segmentAt t i =
       sink = record { 0 = at t (4 * i + 1) };
       wire = record { resistance = record { 0 = at t (4 * i + 2) }; capacitance = record { 0 = at t (4 * i + 3) } };
     }
-
-abbrev pub partAt : List ℕ → ℕ → Part
-partAt t r = record { weight = at t (3 * r); load = record { 0 = at t (3 * r + 1) }; delay = record { 0 = at t (3 * r + 2) } }
-
--- The table u is t with a as entry i, where `entry` reads the tables.
-pub record Put {A : Type 0} (entry : List ℕ → ℕ → A) (t : List ℕ) (i : ℕ) (a : A) (u : List ℕ) : Type 0 where
-  pub long : length u ≡ length t
-  pub here : entry u i ≡ a
-  pub others : (k : ℕ) → (k ≡ i → ⊥) → entry u k ≡ entry t k
 
 -- The table has the first n segments, each at its width.
 pub record SizedTo (net : Net) (x : List ℕ) (n : ℕ) (segments : List ℕ) : Type 0 where
@@ -61,6 +53,7 @@ pub record TablesOf (t : Tables) (c : Counts) (job x : List ℕ) (j : ℕ) : Typ
   pub sized : SizedTo (netBy c job) x (c .segments) (t .segments)
   pub linked : LinkedBy c job (t .first) (t .next)
   pub seated : Seated (netBy c job) (t .seats)
+  pub long : length (t .parts) ≡ 24
   pub parted : (r : ℕ) → r < c .repeaters → j ≤ netBy c job .site r → Hanging (netBy c job) x (netBy c job .site r) (partAt (t .parts) r)
 
 -- Some job and sizing have these tables.

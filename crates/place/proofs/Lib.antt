@@ -6,4 +6,3 @@ pub mod Loads
 pub mod Driving
 pub mod Fixed
 pub mod Adding
-pub mod Path

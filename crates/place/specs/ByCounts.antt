@@ -2,7 +2,7 @@
 -- said of the place p by its number in the job; tables and sizings go by position.
 use mathlib.Core.Path.{_≡_}
 use mathlib.Core.List.{List}
-use Prim.Native.Nat.{ℕ, suc, _+_, _*_, _^_, _≤_, _<_}
+use Prim.Native.Nat.{ℕ, _+_, _*_, _^_, _≤_, _<_}
 use Rattle.lattice.specs.Lists.{at}
 use Rattle.lattice.specs.Space.{Allowed}
 use Rattle.net.specs.declared.Counts.{Counts}
@@ -77,10 +77,6 @@ module _ (c : Counts) (b : List ℕ) where
     -- `upstream` has that of the first n places.
     abbrev pub Upstream : ℕ → List ℕ → Type 0
     Upstream n upstream = UpstreamTo (drivingBy c b) lower upper n upstream
-
-  -- r is the resistance upstream of position t in the sizing y, in whatever table has it.
-  abbrev pub UpstreamAt : List ℕ → ℕ → ℕ → Type 0
-  UpstreamAt y t r = (upstream : List ℕ) → Upstream y y (suc t) upstream → r ≡ at upstream t
 
 -- The same limits for a step of a driver to the size k, and of segment i to the width k of its layer.
 abbrev pub DriverInLimits : Counts → (w u k l : ℕ) → Type 0

@@ -13,7 +13,7 @@ ghost use Rattle.net.specs.Driving.{loadAt};
 ghost use Rattle.net.specs.Order.{placedBy};
 ghost use Rattle.net.specs.Checked.{Checked};
 ghost use Rattle.positions.specs.Arranged.{PlacesInOrder, NodesOf};
-ghost use Rattle.place.specs.ByCounts.{Weighed, AllowedInOrder, SinkAt, DriveInLimits, rowsAt, LengthAt, IndexAndWeight, SlopeAt, StepInLimits, Stepped, Driven, fixedDelay, onwardFrom, upstreamOf, Upstream, UpstreamAt, DriverInLimits, DriverStepped, SegmentInLimits, ChargeInLimits, Charged};
+ghost use Rattle.place.specs.ByCounts.{Weighed, AllowedInOrder, SinkAt, DriveInLimits, rowsAt, LengthAt, IndexAndWeight, SlopeAt, StepInLimits, Stepped, Driven, fixedDelay, onwardFrom, upstreamOf, Upstream, DriverInLimits, DriverStepped, SegmentInLimits, ChargeInLimits, Charged};
 
 // What a place adds at one of its indices: its part of the scaled delay with what its load costs upstream, and the load that it shows.
 pub struct PlaceStep {
@@ -82,7 +82,7 @@ pub fn drive(
 }
 
 // What the delay of place p, of the weight `weight` and at the index k, grows by with each unit of the load that it drives.
-fn slope(job: &[u8], counts: Counts, weight: u64, p: usize, k: u8) -> Resistance
+pub fn slope(job: &[u8], counts: Counts, weight: u64, p: usize, k: u8) -> Resistance
     requires { ⌜ Checked counts (now job) ⌝ }
     requires { ⌜ IndexAndWeight counts (now job) weight p k ⌝ }
     ensures { λ r. ⌜ SlopeAt counts (now (job .entry)) p k (r .0) ⌝ }
@@ -202,38 +202,6 @@ pub fn go_upstream(
         upstream[t] = before.0;
         t += 1;
     }
-}
-
-// The weighted upstream resistance of position t, where every place is held: along the path to the driver before it, and no further.
-pub fn upstream_on_path(
-    job: &[u8],
-    counts: Counts,
-    order: &[usize; 76],
-    hangs: &[usize; 76],
-    weights: &[u64; 76],
-    held: &[u8],
-    t: usize,
-) -> Resistance
-    requires { ⌜ Checked counts (now job) ⌝ }
-    requires { ⌜ PlacesInOrder counts (now job) (now order) ⌝ }
-    requires { ⌜ NodesOf counts (now job) (now hangs) ⌝ }
-    requires { ⌜ Weighed counts (now job) (now weights) ⌝ }
-    requires { ⌜ AllowedInOrder counts (now job) (now held) ⌝ }
-    requires { ⌜ t < placesBy counts ⌝ }
-    ensures { λ r. ⌜ UpstreamAt counts (now (job .entry)) (now (held .entry)) t (r .0) ⌝ }
-{
-    let mut sum = Resistance(0);
-    let mut node = hangs[t];
-    while node > 0 {
-        let a = node - 1;
-        let p = order[a];
-        sum = quantity::add_resistance(sum, slope(job, counts, weights[a], p, held[a]));
-        if job::is_driver(counts, p) {
-            return sum;
-        }
-        node = hangs[a];
-    }
-    sum
 }
 
 // A step of the weighted delay `own` and the load `load`, which is charged through the resistance upstream too.

@@ -1,16 +1,13 @@
 // The places of a net in driving order: the stages, then each segment and directly behind it its repeater. A place's number there is called its
 // position; each stands after the one that drives it, so that one pass from the last position to the first finds what all drive.
 use net::Counts;
-ghost use mathlib.Core.Path.{_≡_};
 ghost use Prim.Native.Nat.{_+_, _<_, _≤_};
 ghost use lib.ListN.{length};
-ghost use Rattle.lattice.specs.Lists.{at};
-ghost use Rattle.lattice.specs.Numbering.{arranged};
 ghost use Rattle.net.specs.Job.{placesBy};
 ghost use Rattle.net.specs.Net.{netBy};
 ghost use Rattle.net.specs.Checked.{Checked};
 ghost use Rattle.net.specs.Order.{Run, InOrder};
-ghost use Rattle.positions.specs.Arranged.{Among, AllInOrder, HangsAt, PlacesInOrder, PositionsOf, NodesOf};
+ghost use Rattle.positions.specs.Arranged.{AllInOrder, HangsAt, PlacesInOrder, PositionsOf, NodesOf};
 
 // Puts the places from `start` to `end`, the end left out, behind which `passed` repeaters have been put.
 fn put_run(
@@ -89,21 +86,6 @@ pub fn arrange(
     let mut t = 0;
     while t < places {
         hangs[t] = hangs_at(job, counts, position, order[t]);
-        t += 1;
-    }
-}
-
-// Puts the indices of a sizing into another order: with the places by position from places to positions, with their positions the way back.
-pub fn rearrange(sizing: &[u8], order: &[usize; 76], into: &mut [u8])
-    requires { ⌜ (length (now into) ≤ 76) ⌝ }
-    requires { ⌜ Among (length (now into)) (length (now sizing)) (now order) ⌝ }
-    ensures { λ r. do
-      n ← ⟦into.len()⟧ .entry
-      ⌜ now (into .exit) ≡ arranged n (at (now (order .entry))) (now (sizing .entry)) ⌝ }
-{
-    let mut t = 0;
-    while t < into.len() {
-        into[t] = sizing[order[t]];
         t += 1;
     }
 }

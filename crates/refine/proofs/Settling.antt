@@ -21,7 +21,6 @@ use Rattle.net.specs.Order.{order, placedBy, drivingBy}
 use Rattle.net.proofs.InOrder.{allowed-by, driving-lattice}
 use Rattle.net.proofs.Held.{before-same}
 use Rattle.net.proofs.OnePosition.{traded}
-use Rattle.place.specs.Partial.{WeightsFrom}
 use Rattle.place.specs.Held.{UpstreamTo}
 use Rattle.place.proofs.Upstream.{upstream-most}
 use Rattle.refine.specs.declared.Ends.{Ends}
@@ -42,19 +41,19 @@ unfolding delayAt loadAt
 settled-by-place c b w u t p d r e s = let z = rw e at s in record { costs = z .costs; fits = z .fits; ends = z .ends }
 
 -- The position p of an allowed sizing x, where it has its weight, its resistance upstream and its load.
-module _ (net : Driving) (o : Placed net) (l : InLimits net) (weights upstream x : List ℕ) (w : WeightsFrom net 0 weights) (a : Allowed (allowedBy net) x)
-    (p d : ℕ) (few : p < net .places) (u : UpstreamTo net x x (suc p) upstream) (e : d ≡ drivenLoad net x p) where
+module _ (net : Driving) (o : Placed net) (l : InLimits net) (upstream x : List ℕ) (a : Allowed (allowedBy net) x)
+    (p w d : ℕ) (few : p < net .places) (weighs : w ≡ net .weight p) (u : UpstreamTo net x x (suc p) upstream) (e : d ≡ drivenLoad net x p) where
   -- these are in the limits
-  pub figures-small : (at weights p ≤ 32640) × (at upstream p ≤ 496128000000) × (d ≤ 13700000)
+  pub figures-small : (w ≤ 32640) × (at upstream p ≤ 496128000000) × (d ≤ 13700000)
   figures-small = (
-    rw (w .held p (omega arith) few) (l .weights p few),
+    rw (weighs) (l .weights p few),
     omega (arith, upstream-most net o l x x a upstream (suc p) u p (omega arith) few, l .few),
     rw e (l .drives x a p few),
   )
 
   -- the delay changes with the index as the cost does
-  cost-trades : (i j : ℕ) → delayBy net (set x p j) + cost net (at weights p) (at upstream p) p d i ≡ delayBy net (set x p i) + cost net (at weights p) (at upstream p) p d j
-  cost-trades i j = rw (w .held p (omega arith) few, e) (traded net (o .falls) x (allowed-by net x .0 a .long) p few (at upstream) held i j)
+  cost-trades : (i j : ℕ) → delayBy net (set x p j) + cost net w (at upstream p) p d i ≡ delayBy net (set x p i) + cost net w (at upstream p) p d j
+  cost-trades i j = rw (weighs, e) (traded net (o .falls) x (allowed-by net x .0 a .long) p few (at upstream) held i j)
     where
       -- no place is free
       held : driving.UpstreamTo net x (suc p) (at upstream)
@@ -68,14 +67,14 @@ module _ (net : Driving) (o : Placed net) (l : InLimits net) (weights upstream x
   )
 
   -- so the ends that settling finds are those of the sizing
-  pub settled-ends : (r : Ends) → Settled net (at weights p) (at upstream p) p d r → EndsAt net x p r
+  pub settled-ends : (r : Ends) → Settled net w (at upstream p) p d r → EndsAt net x p r
   unfolding within
   settled-ends r i =
       record { ends = λ s. cheapest-best (driving-lattice net) (delayBy net) x a p few (net .lowest p) (suc (net .highest p)) range _ cost-trades s (endFrom s r) (i .ends s) }
 
   -- and the delay of the sizing with the smallest end at the place is told by what it costs there
-  pub settled-reaches : (r : Ends) → Settled net (at weights p) (at upstream p) p d r
-      → delayBy net (set x p (r .lowest)) + cost net (at weights p) (at upstream p) p d (at x p) ≡ delayBy net x + r .cost .0
+  pub settled-reaches : (r : Ends) → Settled net w (at upstream p) p d r
+      → delayBy net (set x p (r .lowest)) + cost net w (at upstream p) p d (at x p) ≡ delayBy net x + r .cost .0
   settled-reaches r i =
-      cost-trades (at x p) (r .lowest) ∙ ap (λ (y : List ℕ). delayBy net y + cost net (at weights p) (at upstream p) p d (r .lowest)) (set-getD x p 0)
+      cost-trades (at x p) (r .lowest) ∙ ap (λ (y : List ℕ). delayBy net y + cost net w (at upstream p) p d (r .lowest)) (set-getD x p 0)
       ∙ ap (λ (v : ℕ). delayBy net x + v) (sym (i .costs))

@@ -32,7 +32,13 @@ pub fn driver(job: &[u8], counts: Counts, k: usize, load: Capacitance) -> DelayA
 }
 
 // What stage s drives, where the load of the whole tree is known.
-fn stage_load(job: &[u8], counts: Counts, sizing: &[u8], tree: Capacitance, s: usize) -> Capacitance
+pub fn stage_load(
+    job: &[u8],
+    counts: Counts,
+    sizing: &[u8],
+    tree: Capacitance,
+    s: usize,
+) -> Capacitance
     requires { ⌜ Ready counts (now job) (now sizing) ⌝ }
     requires { ⌜ tree .0 ≡ branchesLoad (netBy counts (now job)) (now sizing) 0 ⌝ }
     requires { ⌜ s < counts .stages ⌝ }

@@ -4,7 +4,7 @@ use Prim.Native.Nat.{ℕ, _+_, _*_, _-_, _<_}
 use native.Mathlib.Omega.{arith}
 use borrow.Author.Needs.{needs}
 use Rattle.elmore.specs.Tables.{tables}
-use Rattle.elmore.proofs.Walking.{EachPassed, some-later, few, some-child, leaf-each, seat-each, bare-each, each-room, each-behind, each-none, passed-from, next-later, each-joined-room, each-joined, each-all}
+use Rattle.elmore.proofs.Walking.{EachPassed, some-later, parts-long, few, some-child, leaf-each, seat-each, bare-each, each-room, each-behind, each-none, passed-from, next-later, each-joined-room, each-joined, each-all}
 use borrow.Fn.Kinds.{In}
 use borrow.Fn.PlainCycle.{Measures, is, falls, and}
 use Rattle.elmore.proofs.branch.Reads as branch
@@ -13,10 +13,10 @@ use Rattle.elmore.proofs.+branch+branches.Lts-branch as branch-lts
 use Rattle.elmore.proofs.branches.Reads as branches
 use Rattle.elmore.proofs.branches.Kinds as branches-kinds
 use Rattle.elmore.proofs.+branch+branches.Lts-branches as branches-lts
-use Rattle.elmore.proofs.behind.Reads as behind-reads
-use Rattle.elmore.proofs.joined.Reads as joined-reads
-use Rattle.elmore.proofs.nothing.Reads as nothing-reads
-use Rattle.elmore.proofs.part_at.Reads as part-at-reads
+use Rattle.parts.proofs.behind.Reads as behind-reads
+use Rattle.parts.proofs.joined.Reads as joined-reads
+use Rattle.parts.proofs.nothing.Reads as nothing-reads
+use Rattle.parts.proofs.part_at.Reads as part-at-reads
 use Rattle.elmore.proofs.segment_at.Reads as segment-at-reads
 use Rattle.job.proofs.index.Reads as index-reads
 use Rattle.elmore.proofs.+branch+branches.{statement}
@@ -85,21 +85,21 @@ branch-index-requires : (t : ℕ) → branch-lts.Need-index-requires (branch-cla
 branch-index-requires t c κs = search needs
 
 branch-part-at-requires : (t : ℕ) → branch-lts.Need-part-at-requires (branch-claims t) (branch-at t) branch.Post
-branch-part-at-requires t c κs = search needs
+branch-part-at-requires t c κs = omega (arith, parts-long (c .before .before .before .before .before .before .before .pre .1 .0))
 
 branch-behind-requires-2 : (t : ℕ) → branch-lts.Need-behind-requires-2 (branch-claims t) (branch-at t) branch.Post
 branch-behind-requires-2 t c κs =
-    let b = c .before .before .before .before .before .before .before in
+    let b = c .before .before .before .before .before .before .before .before in
     let h = b .pre .1 .1 in
-    let u = seat-each (b .args .i) _ h (c .before .before .index .ensures .0) (omega arith) _ (c .part-at .ensures) in
-    each-room (b .args .i) h _ (c .before .before .before .before .before .before .segment-at .ensures) _ u (b .pre .1 .0)
+    let u = seat-each (b .args .i) _ h (c .before .before .before .index .ensures .0) (omega arith) _ (c .part-at .ensures) in
+    each-room (b .args .i) h _ (c .before .before .before .before .before .before .before .segment-at .ensures) _ u (b .pre .1 .0)
 
 branch-returns-2 : (t : ℕ) → branch-lts.Need-returns-2 (branch-claims t) (branch-at t) branch.Post
 branch-returns-2 t c =
-    let b = c .before .before .before .before .before .before .before .before in
+    let b = c .before .before .before .before .before .before .before .before .before in
     let h = b .pre .1 .1 in
-    let u = seat-each (b .args .i) _ h (c .before .before .before .index .ensures .0) (omega arith) _ (c .before .part-at .ensures) in
-    each-behind (b .args .i) h _ (c .before .before .before .before .before .before .before .segment-at .ensures) _ u _ (c .behind2 .ensures)
+    let u = seat-each (b .args .i) _ h (c .before .before .before .before .index .ensures .0) (omega arith) _ (c .before .part-at .ensures) in
+    each-behind (b .args .i) h _ (c .before .before .before .before .before .before .before .before .segment-at .ensures) _ u _ (c .behind2 .ensures)
 
 -- where none has
 branch-branches-requires : (t : ℕ) → branch-lts.Need-branches-requires (branch-claims t) (branch-at t) branch.Post

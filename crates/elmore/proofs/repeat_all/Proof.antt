@@ -3,7 +3,7 @@ use mathlib.Core.Path.{_≡_}
 use Prim.Native.Nat.{suc, _-_, _<_}
 use native.Mathlib.Omega.{arith}
 use Rattle.net.specs.Net.{netBy}
-use Rattle.elmore.proofs.Tallies.{charged-most}
+use Rattle.parts.proofs.Tallies.{charged-most}
 use Rattle.elmore.proofs.Filling.{RepeatedFrom, repeated-none, repeated-all, charge-room, repeated-step, child-some, child-tally}
 use borrow.Author.Needs.{needs}
 use Rattle.elmore.proofs.repeat_all.Statement.{statement}
@@ -66,7 +66,7 @@ put-part-requires : tie.Need-put-part-requires Inv-loop μ-loop
 put-part-requires c κs =
     let b = c .before .before .before .before .before .before .before .before .before .before .before in
     let l = c .before .before .before .before .before .before .before .before .loop in
-    (omega (arith, l .inv .within, b .pre .0 .checked .fewRepeaters), l .inv .parts .long)
+    omega (arith, l .inv .within, b .pre .0 .checked .fewRepeaters, l .inv .parts .long)
 
 add-capacitance-requires : tie.Need-add-capacitance-requires Inv-loop μ-loop
 add-capacitance-requires c κs =

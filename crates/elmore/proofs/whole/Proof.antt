@@ -1,7 +1,7 @@
 -- `elmore::whole` meets its contract: the whole tree hangs at the source.
 use mathlib.Core.Path.{refl}
 use Rattle.net.proofs.Questions.{limited}
-use Rattle.elmore.proofs.Seating.{seated-start}
+use Rattle.parts.proofs.Seating.{seated-start}
 use Rattle.elmore.proofs.Filling.{source-some, source-tally}
 use borrow.Author.Needs.{needs}
 use Rattle.elmore.proofs.whole.Statement.{statement}

@@ -1,0 +1,4 @@
+pub mod Entries
+pub mod Repeating
+pub mod Seating
+pub mod Tallies

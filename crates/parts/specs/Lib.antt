@@ -1,0 +1,4 @@
+pub mod Entries
+pub mod Seats
+pub mod Step
+pub mod Tally
