@@ -2,9 +2,10 @@
 //! Nothing is shared with the library. A job that passes the questions is read in place, through slices of its records.
 //!
 //! Three ways to go:
-//! (a) as the library goes: the delay by a walk over the branches; both ends of the tie at a place, in one pass, by what
-//!     it drives and the resistance upstream of it; the search through the free places, with what the held ones give
-//!     summed once; for both the places stand in driving order: stages, then each segment with its repeater behind it;
+//! (a) as the library goes: the delay by a walk over the branches; both ends of the tie at a place, in one pass over its
+//!     indices, by what it drives and the resistance upstream of it, which for one place are found in one pass over the
+//!     tree; the search through the free places, with what the held ones give summed once; for the bounds and the search
+//!     the places stand in driving order: stages, then each segment with its repeater behind it;
 //! (b) the delay as in (a), and a whole delay for each index that is refined and for each sizing that is searched;
 //! (c) the delay by one pass without recursion, and so at each index that is refined; the search through all places, in
 //!     the order of (a), with the loads and the delay so far carried along.
@@ -297,6 +298,18 @@ struct Part {
     delay: u64,
 }
 
+impl Part {
+    /// Joins a segment with what hangs at its far end.
+    #[inline(always)]
+    fn join(&mut self, segment: Sized, hanging: Part) {
+        let weight = segment.weight + hanging.weight;
+        let under = segment.sink + hanging.load;
+        self.weight += weight;
+        self.load += segment.capacitance + under;
+        self.delay += weight * (segment.resistance * (segment.capacitance + 2 * under)) + hanging.delay;
+    }
+}
+
 /// The indices of a sizing, by kind of place.
 struct Indices<'x> {
     stages: &'x [u8],
@@ -319,6 +332,19 @@ impl<'a> Net<'a> {
         Wire {
             rows: self.layers[usize::from(segment[15])],
             length: word(segment, 4),
+        }
+    }
+
+    /// A segment at the width k.
+    #[inline(always)]
+    fn sized(&self, segment: &Record, k: u8) -> Sized {
+        let Wire { rows, length } = self.wire(segment);
+        let row = &rows[usize::from(k)];
+        Sized {
+            weight: u64::from(segment[12]),
+            sink: word(segment, 8),
+            resistance: word(row, 4) * length,
+            capacitance: word(row, 8) * length,
         }
     }
 
@@ -415,13 +441,7 @@ impl Walk<'_> {
         let mut part = Part::default();
         let mut i = j;
         while i < self.count {
-            let segment = self.segments[i];
-            let below = self.hanging(i);
-            let weight = segment.weight + below.weight;
-            let under = segment.sink + below.load;
-            part.weight += weight;
-            part.load += segment.capacitance + under;
-            part.delay += weight * (segment.resistance * (segment.capacitance + 2 * under)) + below.delay;
+            part.join(self.segments[i], self.hanging(i));
             i = self.links.next[i];
         }
         part
@@ -456,14 +476,7 @@ impl<'a> Tree<'a> {
             count: self.net.segments.len(),
         };
         for ((sized, segment), &k) in walk.segments.iter_mut().zip(self.net.segments).zip(x.segments) {
-            let Wire { rows, length } = self.net.wire(segment);
-            let row = &rows[usize::from(k)];
-            *sized = Sized {
-                weight: u64::from(segment[12]),
-                sink: word(segment, 8),
-                resistance: word(row, 4) * length,
-                capacitance: word(row, 8) * length,
-            };
+            *sized = self.net.sized(segment, k);
         }
         let mut charged = 0;
         for (r, (repeater, &k)) in self.net.repeaters.iter().zip(x.repeaters).enumerate().rev() {
@@ -710,6 +723,125 @@ impl Net<'_> {
     }
 }
 
+/// The branches at each node of the tree in a sizing: from these come the weight of each place, what it drives and what is
+/// upstream of it.
+struct Nodes<'a> {
+    tree: &'a Tree<'a>,
+    sizing: &'a [u8],
+    x: Indices<'a>,
+    parts: [Part; SEGMENTS + 1],
+}
+
+impl<'a> Nodes<'a> {
+    /// One pass from the last segment to the first: each joins the branches at the node that it hangs at.
+    fn new(tree: &'a Tree<'a>, sizing: &'a [u8]) -> Self {
+        let x = tree.net.by_kind(sizing);
+        let parts = [Part::default(); SEGMENTS + 1];
+        let mut nodes = Nodes { tree, sizing, x, parts };
+        for (i, segment) in tree.net.segments.iter().enumerate().rev() {
+            let hanging = nodes.hanging(i);
+            let sized = tree.net.sized(segment, nodes.x.segments[i]);
+            nodes.parts[usize::from(segment[2])].join(sized, hanging);
+        }
+        nodes
+    }
+
+    /// What hangs at the far end of a segment: its branches, seen through the repeater where one sits there.
+    #[inline(always)]
+    fn hanging(&self, i: usize) -> Part {
+        let branches = self.parts[i + 1];
+        match self.x.repeaters.get(usize::from(self.tree.seats[i])) {
+            Some(&k) => self.tree.net.through_repeater(k, branches).0,
+            None => branches,
+        }
+    }
+
+    /// The branches that a driver drives: those of the tree, or those behind a repeater.
+    fn driven_branches(&self, p: usize) -> Part {
+        let net = self.tree.net;
+        let before = net.stages.len() + net.segments.len();
+        match p.checked_sub(before) {
+            Some(r) => self.parts[1 + usize::from(net.repeaters[r][2])],
+            None => self.parts[0],
+        }
+    }
+
+    /// The weight of a place: of a segment that of the sinks at or below its far end, of a driver twice that of those behind it.
+    fn weight(&self, p: usize) -> u64 {
+        let net = self.tree.net;
+        match net.segment_at(p) {
+            Some(segment) => u64::from(segment[12]) + self.parts[p - net.stages.len() + 1].weight,
+            None => 2 * self.driven_branches(p).weight,
+        }
+    }
+
+    /// The load that a place drives.
+    fn driven(&self, p: usize) -> u64 {
+        let net = self.tree.net;
+        if let Some(&next) = self.x.stages.get(p + 1) {
+            return word(&net.sizes[usize::from(next)], 8);
+        }
+        match net.segment_at(p) {
+            Some(segment) => word(segment, 8) + self.hanging(p - net.stages.len()).load,
+            None => self.driven_branches(p).load,
+        }
+    }
+
+    /// The place that drives a place; none drives the first stage. What hangs at the far end of a segment is driven by the repeater
+    /// there, where one sits, or by the segment.
+    fn drives(&self, p: usize) -> Option<usize> {
+        let net = self.tree.net;
+        let stages = net.stages.len();
+        let Some(i) = p.checked_sub(stages) else {
+            return p.checked_sub(1);
+        };
+        let Some(segment) = net.segments.get(i) else {
+            return Some(stages + usize::from(net.repeaters[i - net.segments.len()][2]));
+        };
+        let Some(above) = usize::from(segment[2]).checked_sub(1) else {
+            return Some(stages - 1);
+        };
+        let seat = usize::from(self.tree.seats[above]);
+        let behind = if seat < REPEATERS { net.segments.len() + seat } else { above };
+        Some(stages + behind)
+    }
+
+    /// What the delay grows by with each unit of the load that a place shows: along the path to the driver before it, and no
+    /// further.
+    fn upstream(&self, mut p: usize) -> u64 {
+        let net = self.tree.net;
+        let mut sum = 0;
+        while let Some(a) = self.drives(p) {
+            let k = usize::from(self.sizing[a]);
+            match net.wire_at(a) {
+                None => return sum + self.weight(a) * word(&net.sizes[k], 4),
+                Some(Wire { rows, length }) => sum += 2 * self.weight(a) * (word(&rows[k], 4) * length),
+            }
+            p = a;
+        }
+        sum
+    }
+
+    /// The tie at a place; its cost is the delay that either end reaches.
+    fn refined(&self, p: usize) -> Tie {
+        let net = self.tree.net;
+        let source = self.parts[0];
+        let (stages, _) = net.stages_figures(self.x.stages, source.load);
+        let delay = source.weight * (2 * stages) + source.delay;
+        let (weight, driven, upstream, wire) = (self.weight(p), self.driven(p), self.upstream(p), net.wire_at(p));
+        let cost = |k| {
+            let step = net.step(weight, wire, k, driven);
+            step.delay + upstream * step.load
+        };
+        let (lowest, highest) = net.range(p);
+        let tie = Tie::among(lowest, highest, cost);
+        Tie {
+            cost: delay + tie.cost - cost(self.sizing[p]),
+            ..tie
+        }
+    }
+}
+
 /// The sums of a net whose places are held at one index each, or free, by position, as sizings are here: the loads that the
 /// places drive, and what the delay grows by with each unit of the load that a place shows. A free place shows no load.
 struct Sums<'a> {
@@ -749,21 +881,6 @@ impl<'a> Sums<'a> {
         delay
     }
 
-    /// What the delay grows by with each unit of the load that a position of a sizing shows: along the path to the driver before
-    /// it, and no further.
-    fn upstream_on_path(&self, net: &Net, x: &[u8], t: usize) -> u64 {
-        let mut sum = 0;
-        let mut node = self.at.hangs[t];
-        while let Some(a) = node.checked_sub(1) {
-            match net.wire_at(self.at.order[a]) {
-                None => return sum + self.weights[a] * word(&net.sizes[usize::from(x[a])], 4),
-                Some(Wire { rows, length }) => sum += 2 * self.weights[a] * (word(&rows[usize::from(x[a])], 4) * length),
-            }
-            node = self.at.hangs[a];
-        }
-        sum
-    }
-
     /// What the delay grows by with each unit of load behind position a, which is held at the index k. Nothing passes beyond a
     /// driver.
     #[inline(always)]
@@ -798,19 +915,6 @@ impl<'a> Sums<'a> {
         let wire = net.wire_at(p);
         let (lowest, highest) = net.range(p);
         Tie::among(lowest, highest, |k| self.cost(net, t, wire, k))
-    }
-
-    /// The tie at a place of a sizing, which goes by place; its cost is the delay that either end reaches.
-    fn refined(&mut self, net: &Net, sizing: &[u8], place: usize) -> Tie {
-        let x = &self.at.arranged(sizing)[..sizing.len()];
-        let t = self.at.position[place];
-        let delay = self.hold::<true>(net, x, x);
-        self.upstream[t] = self.upstream_on_path(net, x, t);
-        let tie = self.settled(net, t);
-        Tie {
-            cost: delay + tie.cost - self.cost(net, t, net.wire_at(place), x[t]),
-            ..tie
-        }
     }
 
     /// The bound from a side, by sweeps until nothing changes.
@@ -1089,14 +1193,6 @@ pub fn measure_fastest(job: &[u8], sizing: &[u8]) -> Result<(u64, u64), usize> {
 /// Both ends of the tie at a place, and the delay that either reaches.
 pub type Refined = (u8, u8, u64);
 
-/// Refines a net as (a), by position.
-fn refine_in_order(net: &Net, sizing: &[u8], place: usize) -> Tie {
-    let at = Positions::new(net);
-    let mut sums = Sums::new(&at);
-    at.weigh(net, &mut sums.weights);
-    sums.refined(net, sizing, place)
-}
-
 /// Refines, or tells the number of the first question that fails.
 fn refine_by(job: &[u8], sizing: &[u8], place: usize, way: Way) -> Result<Refined, usize> {
     let mut links = Links::new();
@@ -1108,7 +1204,7 @@ fn refine_by(job: &[u8], sizing: &[u8], place: usize, way: Way) -> Result<Refine
     }
     let x = &sizing[..places];
     let tie = match way {
-        Way::AsLibrary => refine_in_order(&net, x, place),
+        Way::AsLibrary => Nodes::new(&Tree::new(&net, &links), x).refined(place),
         Way::WholeDelays => Tree::new(&net, &links).refined::<false>(x, place),
         Way::Fastest => Tree::new(&net, &links).refined::<true>(x, place),
     };
