@@ -3,3 +3,4 @@ pub mod Tables
 pub mod Turns
 pub mod Calls
 pub mod Passing
+pub mod Placed

@@ -14,7 +14,9 @@ use Rattle.net.specs.Order.{placedBy, drivingBy}
 use Rattle.net.specs.Checked.{Checked}
 use Rattle.positions.specs.Arranged.{PlacesInOrder}
 use Rattle.place.specs.Partial.{WeightsFrom}
+use Rattle.place.specs.ByCounts.{rowsAt, LengthAt}
 use Rattle.place.specs.Held.{BeforeTo, sumAfter, free, fixedFrom, GatheredFrom, DrivenFrom, UpstreamTo}
+use Rattle.free.specs.declared.FreePlace.{FreePlace}
 
 -- `skips` has, for up to n places, how many of them there are up to the last that is free.
 pub record SkipsTo (lower upper : List ℕ) (n : ℕ) (skips : List ℕ) : Type 0 where
@@ -100,6 +102,17 @@ module _ (c : Counts) (lower upper : List ℕ) where
 
   abbrev pub Skipped : List ℕ → Type 0
   Skipped skips = SkipsTo lower upper (placesBy c) skips
+
+-- r is the place at position t with what its steps need, as the tables have it.
+pub record FreePlaceAt (c : Counts) (job orders weights upstream loads lower upper : List ℕ) (t : ℕ) (r : FreePlace) : Type 0 where
+  pub place : r .place ≡ at orders t
+  pub rows : r .rows ≡ rowsAt c job (at orders t)
+  pub length : LengthAt c job (at orders t) (r .length)
+  pub weight : r .weight ≡ at weights t
+  pub before : r .before .0 ≡ at upstream t
+  pub driven : r .driven .0 ≡ at loads t
+  pub low : r .low ≡ at lower t
+  pub top : r .top ≡ at upper t
 
 -- What the contracts say of the net of a job, by the counts of its records and its bytes.
 module _ (c : Counts) (b : List ℕ) where

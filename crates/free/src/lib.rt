@@ -12,7 +12,7 @@ ghost use Rattle.net.specs.Job.{placesBy};
 ghost use Rattle.net.specs.Checked.{Checked};
 ghost use Rattle.positions.specs.Arranged.{PlacesInOrder, NodesOf};
 ghost use Rattle.place.specs.ByCounts.{rowsAt, LengthAt, StepInLimits};
-ghost use Rattle.free.specs.Searching.{Prepared, LastFree, BothLong, Skipped, AllFit, PassedBy, PassedAt, SizedBy, arrivesAt, Lifted, SearchedFrom};
+ghost use Rattle.free.specs.Searching.{FreePlaceAt, Prepared, LastFree, BothLong, Skipped, AllFit, PassedBy, PassedAt, SizedBy, arrivesAt, Lifted, SearchedFrom};
 
 // The node at which a load at `node` arrives, through the held wires above it.
 fn arrival(
@@ -90,6 +90,50 @@ pub fn skip(job: &[u8], counts: Counts, lower: &[u8], upper: &[u8], skips: &mut 
     }
 }
 
+// A free place as the search tries its indices: what stays as it is whatever the index there, but for the loads that arrive behind it.
+pub struct FreePlace {
+    pub place: usize,
+    pub rows: usize,
+    pub length: u64,
+    pub weight: u64,
+    pub before: Resistance,
+    pub driven: Capacitance,
+    pub low: u8,
+    pub top: u8,
+}
+
+// The place at position t with what its steps need, read once for all of them.
+pub fn free_place(
+    job: &[u8],
+    counts: Counts,
+    order: &[usize; 76],
+    weights: &[u64; 76],
+    upstream: &[u64; 76],
+    driven: &[u64; 76],
+    lower: &[u8],
+    upper: &[u8],
+    t: usize,
+) -> FreePlace
+    requires { ⌜ Checked counts (now job) ⌝ }
+    requires { ⌜ PlacesInOrder counts (now job) (now order) ⌝ }
+    requires { ⌜ BothLong counts (now lower) (now upper) ⌝ }
+    requires { ⌜ t < placesBy counts ⌝ }
+    ensures { λ r. ⌜ FreePlaceAt counts (now (job .entry)) (now (order .entry)) (now (weights .entry)) (now (upstream .entry)) (now (driven .entry))
+        (now (lower .entry)) (now (upper .entry)) t r ⌝ }
+{
+    let p = order[t];
+    FreePlace {
+        place: p,
+        rows: job::first_row(job, counts, p),
+        length: job::place_word(job, counts, p, 4),
+        weight: weights[t],
+        before: Resistance(upstream[t]),
+        driven: Capacitance(driven[t]),
+        low: lower[t],
+        top: upper[t],
+    }
+}
+
 // The first index of place p from `low` on that gives a delay of at most `least`, or the one past `top`, where the table of its layer starts at
 // `rows` and its length is `length`. It writes nothing and is called at the last free place, so most sizings of a search are passed over by it.
 pub fn pass_over(
@@ -159,18 +203,33 @@ pub fn take_from(
         (now (x .exit)) (now (gathered .entry)) (found (r .0) (now (lean .exit)) (now (wide .exit))) ⌝ }
 {
     let t = left - 1;
-    let p = order[t];
-    let rows = job::first_row(job, counts, p);
-    let length = job::place_word(job, counts, p, 4);
-    let weight = weights[t];
-    let before = Resistance(upstream[t]);
-    let load = quantity::add_capacitance(Capacitance(driven[t]), Capacitance(gathered[t + 1]));
-    let top = upper[t];
+    let here = free_place(
+        job,
+        counts,
+        order,
+        weights,
+        upstream,
+        driven,
+        lower,
+        upper,
+        t,
+    );
+    let load = quantity::add_capacitance(here.driven, Capacitance(gathered[t + 1]));
     let mut k = start;
     let mut best = least;
-    while k <= top {
+    while k <= here.top {
         let index = k;
-        let step = place::step(job, counts, weight, before, p, rows, length, index, load);
+        let step = place::step(
+            job,
+            counts,
+            here.weight,
+            here.before,
+            here.place,
+            here.rows,
+            here.length,
+            index,
+            load,
+        );
         let reached = quantity::add_delay(added, step.delay);
         k += 1;
         if reached.0 <= best.0 {

@@ -1,2 +1,3 @@
 pub mod WireAt
 pub mod Ranges
+pub mod Runs

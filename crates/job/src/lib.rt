@@ -4,18 +4,25 @@ use quantity::Capacitance;
 use quantity::Resistance;
 use text::widened;
 ghost use mathlib.Core.Path.{_≡_};
-ghost use Prim.Native.Nat.{_+_, _^_, _<_, _≤_};
+ghost use Prim.Native.Nat.{_+_, _*_, _^_, _<_, _≤_};
 ghost use lib.ListN.{length};
 ghost use Rattle.net.specs.Job.{byte, word, widthAt, widthsOf, firstRow, sizeAt, placeAt, segmentAt, segmentLength, segmentLayer, placesBy};
 ghost use Rattle.net.specs.Net.{netBy};
 ghost use Rattle.net.specs.Checked.{Held};
 ghost use Rattle.job.specs.WireAt.{WireAt};
-ghost use Rattle.job.specs.Ranges.{RangeAt, driverAt};
+ghost use Rattle.job.specs.Ranges.{RangeAt, RangeOf, driverAt};
+ghost use Rattle.job.specs.Runs.{byteOf, wordOf};
 
 // A segment's wire at one of its widths.
 pub struct Wire {
     pub resistance: Resistance,
     pub capacitance: Capacitance,
+}
+
+// The lowest and the highest index that a place may have.
+pub struct Range {
+    pub lowest: u8,
+    pub highest: u8,
 }
 
 // A byte, as an index.
@@ -195,7 +202,7 @@ pub fn output(job: &[u8], counts: Counts, k: usize) -> Capacitance
 }
 
 // Where the range of place p stands in its record: the lowest index, and behind it the highest.
-pub fn range_at(counts: Counts, p: usize) -> usize
+fn range_at(counts: Counts, p: usize) -> usize
     requires { ⌜ p < placesBy counts ⌝ }
     ensures { λ r. ⌜ RangeAt counts p r ⌝ }
 {
@@ -208,14 +215,26 @@ pub fn range_at(counts: Counts, p: usize) -> usize
     3
 }
 
+// The indices that place p may have. Where they stand is asked once for both.
+pub fn range_of(job: &[u8], counts: Counts, p: usize) -> Range
+    requires { ⌜ Held counts (now job) ⌝ }
+    requires { ⌜ p < placesBy counts ⌝ }
+    ensures { λ r. ⌜ RangeOf counts (now (job .entry)) p r ⌝ }
+{
+    let at = range_at(counts, p);
+    Range {
+        lowest: place_byte(job, counts, p, at),
+        highest: place_byte(job, counts, p, at + 1),
+    }
+}
+
 // The lowest index that place p may have.
 pub fn lowest(job: &[u8], counts: Counts, p: usize) -> u8
     requires { ⌜ Held counts (now job) ⌝ }
     requires { ⌜ p < placesBy counts ⌝ }
     ensures { λ r. ⌜ r ≡ netBy counts (now (job .entry)) .lowest p ⌝ }
 {
-    let at = range_at(counts, p);
-    place_byte(job, counts, p, at)
+    range_of(job, counts, p).lowest
 }
 
 // The highest index that place p may have.
@@ -224,8 +243,7 @@ pub fn highest(job: &[u8], counts: Counts, p: usize) -> u8
     requires { ⌜ p < placesBy counts ⌝ }
     ensures { λ r. ⌜ r ≡ netBy counts (now (job .entry)) .highest p ⌝ }
 {
-    let at = range_at(counts, p);
-    place_byte(job, counts, p, at + 1)
+    range_of(job, counts, p).highest
 }
 
 // The segment at whose far end repeater r sits.
@@ -244,4 +262,20 @@ pub fn is_driver(counts: Counts, p: usize) -> bool
     ensures { λ r. ⌜ r ≡ driverAt counts p ⌝ }
 {
     counts.segments <= std::num::wrapping_sub_usize(p, counts.stages)
+}
+
+// The byte at `at` of the record k after `start`.
+pub fn byte_of(job: &[u8], start: usize, at: usize, k: usize) -> usize
+    requires { ⌜ (16 * (start + k) + 16 ≤ length (now job)) × (at < 16) ⌝ }
+    ensures { λ r. ⌜ (r ≡ byteOf (now (job .entry)) start at k) × (r < 256) ⌝ }
+{
+    index_at(job, 16 * (start + k) + at)
+}
+
+// The word at `at` of the record k after `start`.
+pub fn word_of(job: &[u8], start: usize, at: usize, k: usize) -> usize
+    requires { ⌜ (16 * (start + k) + 16 ≤ length (now job)) × (at ≤ 12) ⌝ }
+    ensures { λ r. ⌜ r ≡ wordOf (now (job .entry)) start at k ⌝ }
+{
+    word_at(job, 16 * (start + k) + at) as usize
 }

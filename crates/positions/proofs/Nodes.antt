@@ -51,24 +51,6 @@ run-step {start} {end} {passed} p orders′ positions′ l h f net o n a =
     let e : p + 1 + passed ≡ suc (p + passed) = omega arith in
     rw e (put-place net (o .sites) (o .rising) start end passed p n l h (f net o n a))
 
--- The first t of n indices are put.
-pub record Moving (sizing orders : List ℕ) (n t : ℕ) (into : List ℕ) : Type 0 where
-  pub long : length into ≡ n
-  pub few : t ≤ n
-  pub held : (u : ℕ) → u < t → at into u ≡ at sizing (at orders u)
-
-pub moving-step : (sizing orders : List ℕ) (n t : ℕ) (into : List ℕ) → t < n → Moving sizing orders n t into → Moving sizing orders n (t + 1) (set into t (at sizing (at orders t)))
-moving-step sizing orders n t into h m =
-    record {
-      long = length-set into t (at sizing (at orders t)) ∙ m .long;
-      few = omega arith;
-      held = λ u l. go u (eq-or-lt-of-le (le-of-suc-le-suc (omega arith)));
-    }
-  where
-    go : (u : ℕ) → (u ≡ t) ⊎ (u < t) → at (set into t (at sizing (at orders t))) u ≡ at sizing (at orders u)
-    go u (inl e) = rw e (getD-set-same into t (at sizing (at orders t)) 0 (omega (arith, m .long)))
-    go u (inr l) = getD-set-other into t u (at sizing (at orders t)) 0 (λ e. omega arith) ∙ m .held u l
-
 -- The places before `start`, each with its repeater, are in order: r repeaters have been put.
 pub record Passing (net : Net) (start r : ℕ) (orders positions : List ℕ) : Type 0 where
   pub few : r ≤ net .repeaters

@@ -1,4 +1,1 @@
-pub mod Regroup
-pub mod Branches
 pub mod Numbers
-pub mod Zeros

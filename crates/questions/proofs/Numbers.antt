@@ -18,8 +18,9 @@ use Rattle.net.proofs.Records.{records-fill, counts-small, layer0-small, counts
 use Rattle.net.proofs.Questions.{in-range, checked}
 use Rattle.links.specs.Links.{Linked}
 use Rattle.questions.specs.declared.Outcome.{Outcome}
-use Rattle.runs.specs.Records.{countsTo}
-use Rattle.questions.specs.Check.{CheckOf, Linkable, Asked, questionsFrom10, questionsFrom9, questionsFrom7, questionsFrom24, Counted}
+use Rattle.kinds.specs.Counted.{countsTo}
+use Rattle.asked.specs.Parts.{Counted}
+use Rattle.questions.specs.Check.{CheckOf, Linkable, Asked, questionsFrom10, questionsFrom9, questionsFrom7, questionsFrom24}
 
 -- r is the answer to the question q, the first of those that are left: yes, and a later one decides; or no
 pub yes : (m : ℕ) (qs : List Question) {q r : Bool} {n : ℕ} → r ≡ q → not r ≡ false → n ≡ firstNo qs → n ≡ firstNo (ask m q ∷ qs)

@@ -1,17 +1,15 @@
 -- What the contracts of `check` and of its parts say.
 use mathlib.Core.Path.{_≡_}
-use mathlib.Core.Bool.{Bool, true, cond}
+use mathlib.Core.Bool.{true}
 use mathlib.Core.List.{List, [], _∷_}
-use Prim.Native.Nat.{ℕ, _+_, _*_, _≤_, _<_}
-use lib.Dec.{ltb}
-use lib.ListN.{length, getD}
-use Rattle.lattice.specs.Lists.{every}
+use Prim.Native.Nat.{ℕ, _*_, _≤_}
+use lib.ListN.{length}
 use Rattle.net.specs.declared.Counts.{Counts}
-use Rattle.net.specs.Job.{records, countsOf, widthsOf, repeaterAt}
-use Rattle.net.specs.Net.{Net, netBy}
-use Rattle.net.specs.Questions.{question1, question24, question3, question4, zeros, question5, question6, question7, question8, question9, question10, question11, question22, question23, Question, ask, firstNo, refusal}
+use Rattle.net.specs.Job.{records, countsOf}
+use Rattle.net.specs.Net.{netBy}
+use Rattle.net.specs.Questions.{question1, question24, question3, question4, question5, question6, question7, question8, question9, question10, question11, question22, question23, Question, ask, firstNo, refusal}
 use Rattle.net.specs.Checked.{Held, Checked}
-use Rattle.links.specs.Links.{First, Linked}
+use Rattle.links.specs.Links.{Linked}
 use Rattle.questions.specs.declared.Outcome.{Outcome}
 
 -- The number is that of the first question that the job fails; the count is that of the job's records, and sixteen times it is the length wherever
@@ -49,21 +47,3 @@ questionsFrom7 c b = ask 7 (question7 c b) ∷ ask 8 (question8 c b) ∷ []
 
 unfoldable pub questionsFrom24 : Counts → List ℕ → List Question
 questionsFrom24 c b = ask 24 (question24 c b) ∷ ask 3 (question3 c) ∷ ask 4 (question4 c b) ∷ ask 5 (question5 c b) ∷ ask 6 (question6 c b) ∷ questionsFrom7 c b
-
--- The highest layer that has widths.
-abbrev pub topLayer : Counts → ℕ
-topLayer c = cond (ltb 0 (widthsOf c 1)) 1 0
-
--- Are the unnamed bytes of the repeaters zero?
-abbrev pub repeatersZero : Counts → List ℕ → Bool
-repeatersZero c b = every (c .repeaters) (λ r. zeros c b (repeaterAt c r + 5) 11)
-
--- The records that are counted are there, and at least one stage.
-pub record Counted (c : Counts) (b : List ℕ) : Type 0 where
-  pub held : Held c b
-  pub someStage : 1 ≤ c .stages
-
--- `first` has the first segment at each node.
-pub record Firsts (net : Net) (first : List ℕ) : Type 0 where
-  pub nodes : net .segments < length first
-  pub firsts : (q : ℕ) → q ≤ net .segments → First net q 0 (getD first q 0)

@@ -1,16 +1,13 @@
-// Questions 1 to 11 and 22 to 24, asked of a job of any length, in time linear in it. Within a question all tests are asked, by `&`: a proof then has
-// one way through it.
+// Questions 1 to 11 and 22 to 24, in their order, asked of a job of any length, in time linear in it.
 use net::Counts;
-use runs::RunEnds;
 ghost use mathlib.Core.Path.{_≡_};
 ghost use Prim.Native.Nat.{_<_, _≤_};
 ghost use lib.ListN.{length};
-ghost use Rattle.net.specs.Job.{records};
 ghost use Rattle.net.specs.Net.{netBy};
-ghost use Rattle.net.specs.Questions.{question1, question2, question24, question3, question4, question5, question6, question7, question8, question22, question23, firstNo};
+ghost use Rattle.net.specs.Questions.{firstNo};
 ghost use Rattle.net.specs.Checked.{Held};
-ghost use Rattle.runs.specs.Kinds.{EndsOf};
-ghost use Rattle.questions.specs.Check.{CheckOf, Asked, topLayer, repeatersZero, questionsFrom10, questionsFrom7, questionsFrom24, Counted, Firsts};
+ghost use Rattle.asked.specs.Parts.{Counted, Firsts};
+ghost use Rattle.questions.specs.Check.{CheckOf, Asked, questionsFrom10, questionsFrom7, questionsFrom24};
 
 // The number of the first question that a job fails, 0 where it passes all; the count of its records; and, where it passes all, their counts by
 // kind.
@@ -18,162 +15,6 @@ pub struct Outcome {
     pub number: usize,
     pub records: usize,
     pub counts: Counts,
-}
-
-// Question 1, of n whole records: is the length above 0 and a multiple of 16?
-fn question1(job: &[u8], n: usize) -> bool
-    requires { ⌜ n ≡ records (now job) ⌝ }
-    ensures { λ r. ⌜ r ≡ question1 (now (job .entry)) ⌝ }
-{
-    (0 < job.len()) & (16 * n == job.len())
-}
-
-// Question 2, of n records: is every kind 1 to 5, never falling? It is where the runs of the kinds, one behind another, cover all.
-fn question2(job: &[u8], n: usize, ends: RunEnds) -> bool
-    requires { ⌜ n ≡ records (now job) ⌝ }
-    requires { ⌜ EndsOf (now job) n ends ⌝ }
-    ensures { λ r. ⌜ r ≡ question2 (now (job .entry)) ⌝ }
-{
-    ends.repeaters == n
-}
-
-// The highest layer that has widths.
-fn top_layer(counts: Counts) -> usize
-    ensures { λ r. ⌜ r ≡ topLayer counts ⌝ }
-{
-    if counts.layer0 < counts.widths {
-        return 1;
-    }
-    0
-}
-
-// Question 24: is every layer byte 0 or 1, does the layer never fall from one width to the next, and has layer 1 a width where a segment names it?
-// A segment's layer is then at most the highest that has widths.
-fn question24(job: &[u8], counts: Counts) -> bool
-    requires { ⌜ Held counts (now job) ⌝ }
-    ensures { λ r. ⌜ r ≡ question24 counts (now (job .entry)) ⌝ }
-{
-    let start = counts.widths + counts.sizes + counts.stages;
-    let top = top_layer(counts);
-    let widths = runs::bytes_in_order(job, counts.widths, 2, 0, 1);
-    let segments = runs::bytes_within(job, start, counts.segments, 15, 0, top);
-    widths & segments
-}
-
-// Question 3: is each kind's count in its range, that of widths in each layer?
-fn question3(counts: Counts) -> bool
-    requires { ⌜ counts .layer0 ≤ counts .widths ⌝ }
-    ensures { λ r. ⌜ r ≡ question3 counts ⌝ }
-{
-    let first = (1 <= counts.layer0) & (counts.layer0 <= 8);
-    let second = counts.widths - counts.layer0 <= 8;
-    let sizes = (1 <= counts.sizes) & (counts.sizes <= 16);
-    let stages = (1 <= counts.stages) & (counts.stages <= 4);
-    let segments = (1 <= counts.segments) & (counts.segments <= 64);
-    let repeaters = counts.repeaters <= 8;
-    first & (second & (sizes & (stages & (segments & repeaters))))
-}
-
-// Question 4: do numbers count from 0 in each kind, those of widths in each layer? The segments come last, so that the compiler keeps no answer
-// while it goes through the longest run.
-fn question4(job: &[u8], counts: Counts) -> bool
-    requires { ⌜ Held counts (now job) ⌝ }
-    ensures { λ r. ⌜ r ≡ question4 counts (now (job .entry)) ⌝ }
-{
-    let places = counts.widths + counts.sizes;
-    let first = runs::numbers_in_order(job, 0, counts.layer0);
-    let second = runs::numbers_in_order(job, counts.layer0, counts.widths - counts.layer0);
-    let sizes = runs::numbers_in_order(job, counts.widths, counts.sizes);
-    let stages = runs::numbers_in_order(job, places, counts.stages);
-    let start = places + (counts.stages + counts.segments);
-    let repeaters = runs::numbers_in_order(job, start, counts.repeaters);
-    let segments = runs::numbers_in_order(job, places + counts.stages, counts.segments);
-    (first & second) & (sizes & (stages & (segments & repeaters)))
-}
-
-// Are the unnamed bytes of the repeaters zero: the last three of the second word, and the two words behind it?
-fn repeaters_zero(job: &[u8], counts: Counts) -> bool
-    requires { ⌜ Held counts (now job) ⌝ }
-    ensures { λ r. ⌜ r ≡ repeatersZero counts (now (job .entry)) ⌝ }
-{
-    let start = counts.widths + counts.sizes + (counts.stages + counts.segments);
-    let second = runs::bytes_zero(job, start, counts.repeaters, 5, 3);
-    let third = runs::words_within(job, start, counts.repeaters, 8, 0, 0);
-    let fourth = runs::words_within(job, start, counts.repeaters, 12, 0, 0);
-    second & (third & fourth)
-}
-
-// Question 5: are all unnamed bytes zero?
-fn question5(job: &[u8], counts: Counts) -> bool
-    requires { ⌜ Held counts (now job) ⌝ }
-    ensures { λ r. ⌜ r ≡ question5 counts (now (job .entry)) ⌝ }
-{
-    let places = counts.widths + counts.sizes;
-    let before = runs::bytes_zero(job, 0, counts.widths, 3, 1);
-    let behind = runs::words_within(job, 0, counts.widths, 12, 0, 0);
-    let sizes = runs::bytes_zero(job, counts.widths, counts.sizes, 2, 2);
-    let second = runs::words_within(job, places, counts.stages, 4, 0, 0);
-    let third = runs::words_within(job, places, counts.stages, 8, 0, 0);
-    let fourth = runs::words_within(job, places, counts.stages, 12, 0, 0);
-    let stages = second & (third & fourth);
-    let repeaters = repeaters_zero(job, counts);
-    (before & behind) & (sizes & (stages & repeaters))
-}
-
-// Question 6: are the values of kinds 1 and 2 in range?
-fn question6(job: &[u8], counts: Counts) -> bool
-    requires { ⌜ Held counts (now job) ⌝ }
-    ensures { λ r. ⌜ r ≡ question6 counts (now (job .entry)) ⌝ }
-{
-    let resistances = runs::words_within(job, 0, counts.widths, 4, 1, 100);
-    let capacitances = runs::words_within(job, 0, counts.widths, 8, 1, 100);
-    let drivers = runs::words_within(job, counts.widths, counts.sizes, 4, 1, 100000);
-    let gates = runs::words_within(job, counts.widths, counts.sizes, 8, 1, 100000);
-    let outputs = runs::words_within(job, counts.widths, counts.sizes, 12, 0, 100000);
-    (resistances & capacitances) & (drivers & (gates & outputs))
-}
-
-// Question 7: in each table, that of each layer and that of the driver sizes, does resistance strictly fall, and do width capacitance and gate
-// capacitance strictly rise?
-fn question7(job: &[u8], counts: Counts) -> bool
-    requires { ⌜ Held counts (now job) ⌝ }
-    ensures { λ r. ⌜ r ≡ question7 counts (now (job .entry)) ⌝ }
-{
-    let first = runs::table_in_order(job, 0, counts.layer0);
-    let second = runs::table_in_order(job, counts.layer0, counts.widths - counts.layer0);
-    let sizes = runs::table_in_order(job, counts.widths, counts.sizes);
-    (first & second) & sizes
-}
-
-// Question 8: is every stage's lowest ≤ highest < count of sizes, with both equal for stage 0?
-fn question8(job: &[u8], counts: Counts) -> bool
-    requires { ⌜ Counted counts (now job) ⌝ }
-    ensures { λ r. ⌜ r ≡ question8 counts (now (job .entry)) ⌝ }
-{
-    let places = counts.widths + counts.sizes;
-    let ranges = runs::ranges_within(job, places, counts.stages, 2, counts.sizes);
-    let lowest = runs::byte_of(job, places, 2, 0);
-    let highest = runs::byte_of(job, places, 3, 0);
-    ranges & (lowest == highest)
-}
-
-// Question 22: is the segment of every repeater there, has it branches, and do the segment numbers strictly rise?
-fn question22(job: &[u8], counts: Counts, first: &[usize]) -> bool
-    requires { ⌜ Held counts (now job) ⌝ }
-    requires { ⌜ Firsts (netBy counts (now job)) (now first) ⌝ }
-    ensures { λ r. ⌜ r ≡ question22 counts (now (job .entry)) ⌝ }
-{
-    let start = counts.widths + counts.sizes + (counts.stages + counts.segments);
-    runs::repeaters_sited(job, first, start, counts.repeaters, counts.segments)
-}
-
-// Question 23: is every repeater's lowest ≤ highest < count of sizes?
-fn question23(job: &[u8], counts: Counts) -> bool
-    requires { ⌜ Held counts (now job) ⌝ }
-    ensures { λ r. ⌜ r ≡ question23 counts (now (job .entry)) ⌝ }
-{
-    let start = counts.widths + counts.sizes + (counts.stages + counts.segments);
-    runs::ranges_within(job, start, counts.repeaters, 3, counts.sizes)
 }
 
 // The number of the first of questions 10, 11, 22 and 23 that a job fails, 0 where it passes them. Question 10: are segment fields in range,
@@ -185,17 +26,17 @@ fn questions_from_10(job: &[u8], counts: Counts, first: &[usize]) -> usize
     ensures { λ r. ⌜ r ≡ firstNo (questionsFrom10 counts (now (job .entry))) ⌝ }
 {
     let start = counts.widths + counts.sizes + counts.stages;
-    let tests = runs::segments_fit(job, counts, first, start, counts.segments);
+    let tests = segments::segments_fit(job, counts, first, start, counts.segments);
     if !tests.fields {
         return 10;
     }
     if !tests.ends {
         return 11;
     }
-    if !question22(job, counts, first) {
+    if !asked::question22(job, counts, first) {
         return 22;
     }
-    if !question23(job, counts) {
+    if !asked::question23(job, counts) {
         return 23;
     }
     0
@@ -206,10 +47,10 @@ fn questions_from_7(job: &[u8], counts: Counts) -> usize
     requires { ⌜ Counted counts (now job) ⌝ }
     ensures { λ r. ⌜ r ≡ firstNo (questionsFrom7 counts (now (job .entry))) ⌝ }
 {
-    if !question7(job, counts) {
+    if !asked::question7(job, counts) {
         return 7;
     }
-    if !question8(job, counts) {
+    if !asked::question8(job, counts) {
         return 8;
     }
     0
@@ -220,19 +61,19 @@ fn questions_from_24(job: &[u8], counts: Counts) -> usize
     requires { ⌜ Held counts (now job) ⌝ }
     ensures { λ r. ⌜ r ≡ firstNo (questionsFrom24 counts (now (job .entry))) ⌝ }
 {
-    if !question24(job, counts) {
+    if !asked::question24(job, counts) {
         return 24;
     }
-    if !question3(counts) {
+    if !asked::question3(counts) {
         return 3;
     }
-    if !question4(job, counts) {
+    if !asked::question4(job, counts) {
         return 4;
     }
-    if !question5(job, counts) {
+    if !asked::question5(job, counts) {
         return 5;
     }
-    if !question6(job, counts) {
+    if !asked::question6(job, counts) {
         return 6;
     }
     questions_from_7(job, counts)
@@ -262,14 +103,14 @@ fn questions_from_1(job: &[u8]) -> Outcome
     ensures { λ r. ⌜ Asked (now (job .entry)) r ⌝ }
 {
     let records = job.len() / 16;
-    if !question1(job, records) {
+    if !asked::question1(job, records) {
         return uncounted(1, records);
     }
-    let ends = runs::find_ends(job, records);
-    if !question2(job, records, ends) {
+    let ends = kinds::find_ends(job, records);
+    if !asked::question2(job, records, ends) {
         return uncounted(2, records);
     }
-    let counts = runs::count(job, records, ends);
+    let counts = kinds::count(job, records, ends);
     let number = questions_from_24(job, counts);
     Outcome {
         number: number,

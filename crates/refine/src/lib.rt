@@ -30,8 +30,9 @@ pub fn settle(
 {
     let rows = job::first_row(job, counts, place);
     let length = job::place_word(job, counts, place, 4);
-    let top = job::highest(job, counts, place);
-    let mut lowest = job::index(job::lowest(job, counts, place));
+    let range = job::range_of(job, counts, place);
+    let top = range.highest;
+    let mut lowest = job::index(range.lowest);
     let mut highest = lowest;
     let mut least = place::step_to(
         job,

@@ -3,7 +3,6 @@
 use net::Counts;
 use quantity::Capacitance;
 use quantity::Delay;
-use quantity::Resistance;
 ghost use mathlib.Core.Path.{_≡_};
 ghost use Prim.Native.Nat.{_<_};
 ghost use lib.ListN.{length};
@@ -43,35 +42,52 @@ fn search(
         (now (x .exit)) (now (gathered .exit)) (found (r .0) (now (lean .exit)) (now (wide .exit))) ⌝ }
 {
     let t = left - 1;
-    let p = order[t];
-    let rows = job::first_row(job, counts, p);
-    let length = job::place_word(job, counts, p, 4);
+    let here = free::free_place(
+        job,
+        counts,
+        order,
+        weights,
+        upstream,
+        driven,
+        lower,
+        upper,
+        t,
+    );
     let rest = skips[t];
     let next = rest - 1;
-    // what stays as it is at the next free place, whatever the index here
-    let next_place = order[next];
-    let next_rows = job::first_row(job, counts, next_place);
-    let next_length = job::place_word(job, counts, next_place, 4);
-    let next_low = lower[next];
-    let next_top = upper[next];
-    let next_weight = weights[next];
-    let next_before = Resistance(upstream[next]);
-    let next_driven = Capacitance(driven[next]);
+    // the next free place, as it is whatever the index here
+    let then = free::free_place(
+        job,
+        counts,
+        order,
+        weights,
+        upstream,
+        driven,
+        lower,
+        upper,
+        next,
+    );
     let further = skips[next];
-    let weight = weights[t];
-    let before = Resistance(upstream[t]);
-    let load = quantity::add_capacitance(Capacitance(driven[t]), Capacitance(gathered[t + 1]));
+    let load = quantity::add_capacitance(here.driven, Capacitance(gathered[t + 1]));
     let node = ups[t];
     let others = Capacitance(gathered[node]);
-    let top = upper[t];
-    let mut k = lower[t];
+    let mut k = here.low;
     let mut best = least;
-    while k <= top {
-        let step = place::step(job, counts, weight, before, p, rows, length, k, load);
+    while k <= here.top {
+        let step = place::step(
+            job,
+            counts,
+            here.weight,
+            here.before,
+            here.place,
+            here.rows,
+            here.length,
+            k,
+            load,
+        );
         let reached = quantity::add_delay(added, step.delay);
-        let shown = step.load;
         x[t] = k;
-        let all = quantity::add_capacitance(others, shown);
+        let all = quantity::add_capacitance(others, step.load);
         gathered[node] = all.0;
         k += 1;
         if further == 0 {
@@ -79,18 +95,18 @@ fn search(
             let first = free::pass_over(
                 job,
                 counts,
-                next_weight,
-                next_before,
-                next_place,
-                next_rows,
-                next_length,
-                quantity::add_capacitance(next_driven, arrived),
+                then.weight,
+                then.before,
+                then.place,
+                then.rows,
+                then.length,
+                quantity::add_capacitance(then.driven, arrived),
                 reached,
                 best,
-                next_low,
-                next_top,
+                then.low,
+                then.top,
             );
-            if first <= next_top {
+            if first <= then.top {
                 best = free::take_from(
                     job,
                     counts,

@@ -64,7 +64,7 @@ add-result-3 c = search needs
 returns-4 : tie.Need-returns-4
 returns-4 c =
     let b = c .before .before .before .before .before .before .before .before .before .before .before .before in
-    drives-repeated (b .pre .0) (b .args .p) (c .before .before .before .before .before .before .before .before .before .if1 .left) _ (c .before .before .before .before .before .before .if2 .left) (c .before .before .before .before .before .parent .ensures) (c .before .before .before .before .if3 .left) (b .pre .1 .0) _ (c .before .before .index .ensures .0) (c .before .if4 .taken)
+    drives-repeated (b .pre .0) (b .args .p) (c .before .before .before .before .before .before .before .before .before .if1 .left) _ (c .before .before .before .before .before .before .if2 .left) (c .before .before .before .before .before .parent .ensures) (c .before .before .before .before .if3 .left) (b .pre .1 .0) _ (c .before .before .index .ensures .0) (omega (arith, c .before .if4 .taken))
 
 sub-result-3 : tie.Need-sub-result-3
 sub-result-3 c = search needs
@@ -78,7 +78,7 @@ add-result-4 c =
 returns-5 : tie.Need-returns-5
 returns-5 c =
     let b = c .before .before .before .before .before .before .before .before .before .before .before .before in
-    drives-wire (b .pre .0) (b .args .p) (c .before .before .before .before .before .before .before .before .before .if1 .left) _ (c .before .before .before .before .before .before .if2 .left) (c .before .before .before .before .before .parent .ensures) (c .before .before .before .before .if3 .left) (b .pre .1 .0) _ (c .before .before .index .ensures .0) (c .before .if4 .left)
+    drives-wire (b .pre .0) (b .args .p) (c .before .before .before .before .before .before .before .before .before .if1 .left) _ (c .before .before .before .before .before .before .if2 .left) (c .before .before .before .before .before .parent .ensures) (c .before .before .before .before .if3 .left) (b .pre .1 .0) _ (c .before .before .index .ensures .0) (omega (arith, c .before .if4 .left))
 
 pub drives-spec : {M : Type 1} → statement M
 drives-spec =

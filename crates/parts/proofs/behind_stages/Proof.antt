@@ -3,7 +3,6 @@ use native.Mathlib.Omega.{arith}
 use Rattle.net.proofs.Questions.{ordered, limited}
 use Rattle.net.proofs.Bound.{stagesDelay-small, delay-fits}
 use Rattle.parts.proofs.Tallies.{whole-driven, whole-delay}
-use borrow.Author.Needs.{needs}
 use Rattle.parts.proofs.behind_stages.Statement.{statement}
 use Rattle.parts.proofs.behind_stages.Tie as tie
 

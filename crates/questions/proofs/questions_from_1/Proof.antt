@@ -1,7 +1,7 @@
 -- `questions::questions_from_1` meets its contract: the first no decides, and where there is none the job can be linked.
 use borrow.Author.Needs.{needs}
 use native.Mathlib.Omega.{arith}
-use Rattle.runs.proofs.Ends.{kinds-known}
+use Rattle.kinds.proofs.Ends.{kinds-known}
 use Rattle.questions.proofs.Numbers.{counted-all, counted-held, refused-1, refused-2, asked-from-24}
 use Rattle.questions.proofs.questions_from_1.Statement.{statement}
 use Rattle.questions.proofs.questions_from_1.Tie as tie

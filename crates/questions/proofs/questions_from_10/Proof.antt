@@ -9,8 +9,8 @@ use borrow.Author.Needs.{needs}
 use Rattle.net.specs.declared.Counts.{Counts}
 use Rattle.net.specs.Questions.{question10, question11}
 use Rattle.questions.specs.Check.{questionsFrom10}
-use Rattle.questions.proofs.Regroup.{question10-by}
-use Rattle.questions.proofs.Branches.{question11-by}
+use Rattle.asked.proofs.Regroup.{question10-by}
+use Rattle.asked.proofs.Branches.{question11-by}
 use Rattle.questions.proofs.Numbers.{yes, no, none}
 use Rattle.questions.proofs.questions_from_10.Statement.{statement}
 use Rattle.questions.proofs.questions_from_10.Tie as tie

@@ -25,27 +25,25 @@ first-row-requires c κs =
 place-word-requires : tie.Need-place-word-requires Inv-loop μ-loop
 place-word-requires c κs = search needs
 
-highest-requires : tie.Need-highest-requires Inv-loop μ-loop
-highest-requires c κs = search needs
-
-lowest-requires : tie.Need-lowest-requires Inv-loop μ-loop
-lowest-requires c κs = search needs
+range-of-requires : tie.Need-range-of-requires Inv-loop μ-loop
+range-of-requires c κs = search needs
 
 index-requires : tie.Need-index-requires Inv-loop μ-loop
 index-requires c κs = search needs
 
 step-to-requires : tie.Need-step-to-requires Inv-loop μ-loop
 step-to-requires c κs =
-    let b = c .before .before .before .before .before .before in
-    (b .pre .0, (c .before .before .before .before .first-row .ensures, (c .before .before .before .place-word .ensures, (b .pre .1 .0, omega (arith, c .index .ensures, c .before .lowest .ensures, b .pre .0 .ranges (b .args .place) (b .pre .1 .0)), b .pre .1 .1, b .pre .1 .2, b .pre .1 .3))))
+    let b = c .before .before .before .before .before in
+    (b .pre .0, (c .before .before .before .first-row .ensures, (c .before .before .place-word .ensures, (b .pre .1 .0, omega (arith, c .index .ensures, c .before .range-of .ensures .lowest, b .pre .0 .ranges (b .args .place) (b .pre .1 .0)), b .pre .1 .1, b .pre .1 .2, b .pre .1 .3))))
 
 loop-holds : tie.Need-loop-holds Inv-loop μ-loop
 loop-holds c =
-    let b = c .before .before .before .before .before .before .before .before in
+    let b = c .before .before .before .before .before .before .before in
     let p = b .args .place in
-    let low = c .before .before .index .ensures .0 ∙ c .before .before .before .lowest .ensures in (
+    let range = c .before .before .before .range-of .ensures in
+    let low = c .before .before .index .ensures .0 ∙ range .lowest in (
       scan-start (placedBy (b .args .counts) (b .args .job .now) .lowest p) _ _ _ low (c .before .step-to .ensures .delay),
-      omega (arith, low, c .before .before .before .before .highest .ensures, b .pre .0 .ranges p (b .pre .1 .0)),
+      omega (arith, low, range .highest, b .pre .0 .ranges p (b .pre .1 .0)),
       c .before .step-to .ensures .fits,
     )
 
@@ -57,8 +55,8 @@ add-k c = omega (arith, c .before .loop .inv .1)
 
 step-to-requires-2 : tie.Need-step-to-requires-2 Inv-loop μ-loop
 step-to-requires-2 c κs =
-    let b = c .before .before .before .before .before .before .before .before .before .before in
-    (b .pre .0, (c .before .before .before .before .before .before .before .before .first-row .ensures, (c .before .before .before .before .before .before .before .place-word .ensures, (b .pre .1 .0, omega (arith, c .loop-test .taken, c .before .before .before .before .before .before .highest .ensures), b .pre .1 .1, b .pre .1 .2, b .pre .1 .3))))
+    let b = c .before .before .before .before .before .before .before .before .before in
+    (b .pre .0, (c .before .before .before .before .before .before .before .first-row .ensures, (c .before .before .before .before .before .before .place-word .ensures, (b .pre .1 .0, omega (arith, c .loop-test .taken, c .before .before .before .before .before .range-of .ensures .highest), b .pre .1 .1, b .pre .1 .2, b .pre .1 .3))))
 
 loop-less : tie.Need-loop-less Inv-loop μ-loop
 loop-less c = omega (arith, c .before .before .before .before .before .loop-test .taken)
@@ -87,17 +85,17 @@ loop-again-3 c =
     let e = c .before .before .before .before .before .before .before .step-to2 .ensures in
     (scan-more _ _ _ _ _ _ (l .inv .0) _ (e .delay) (omega (arith, c .before .before .before .if1 .left, c .if2 .left)), omega (arith, c .before .before .before .before .before .before .before .before .loop-test .taken), l .inv .2)
 
-cast-t15 : tie.Need-cast-t15 Inv-loop μ-loop
-cast-t15 c = omega (arith, c .before .loop .inv .0 .low .high, c .before .loop .inv .1, c .before .before .before .before .before .before .highest .ensures)
-
 cast-t21 : tie.Need-cast-t21 Inv-loop μ-loop
-cast-t21 c = omega (arith, c .before .loop .inv .0 .high .high, c .before .loop .inv .1, c .before .before .before .before .before .before .highest .ensures)
+cast-t21 c = omega (arith, c .before .loop .inv .0 .low .high, c .before .loop .inv .1, c .before .before .before .before .before .range-of .ensures .highest)
+
+cast-t22 : tie.Need-cast-t22 Inv-loop μ-loop
+cast-t22 c = omega (arith, c .before .loop .inv .0 .high .high, c .before .loop .inv .1, c .before .before .before .before .before .range-of .ensures .highest)
 
 returns : tie.Need-returns Inv-loop μ-loop
 returns c =
-    let b = c .before .before .before .before .before .before .before .before .before .before in
+    let b = c .before .before .before .before .before .before .before .before .before in
     scanned-settled (placedBy (b .args .counts) (b .args .job .now)) _ _ (b .args .place) _ _ _ (c .before .loop .inv .0) (c .before .loop .inv .2)
-    (omega (arith, c .before .loop .inv .1, c .loop-test .left, c .before .before .before .before .before .before .highest .ensures))
+    (omega (arith, c .before .loop .inv .1, c .loop-test .left, c .before .before .before .before .before .range-of .ensures .highest))
 
 pub settle-spec : {M : Type 1} → statement M
 settle-spec =
@@ -107,8 +105,7 @@ settle-spec =
     μ-loop
     first-row-requires
     place-word-requires
-    highest-requires
-    lowest-requires
+    range-of-requires
     index-requires
     step-to-requires
     loop-holds
@@ -121,6 +118,6 @@ settle-spec =
     loop-again-2
     loop-less-3
     loop-again-3
-    cast-t15
     cast-t21
+    cast-t22
     returns)

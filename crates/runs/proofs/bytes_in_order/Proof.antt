@@ -2,7 +2,7 @@
 use mathlib.Core.Path.{_≡_}
 use Prim.Native.Nat.{_-_, _≤_}
 use native.Mathlib.Omega.{arith}
-use Rattle.runs.specs.Records.{byteOf}
+use Rattle.job.specs.Runs.{byteOf}
 use Rattle.runs.proofs.Climbing.{Climbed, climbs-none, climbs-on, falls-here, climbs-all}
 use Rattle.runs.proofs.bytes_in_order.Statement.{statement}
 use Rattle.runs.proofs.bytes_in_order.Tie as tie

@@ -1,0 +1,3 @@
+pub mod Branches
+pub mod Regroup
+pub mod Zeros
