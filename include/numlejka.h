@@ -53,7 +53,7 @@
  *
  * Stack. A call needs at most 24 KiB of stack. Measured on painted stacks, on x86-64 Linux, with a chain of 64 segments
  * behind 4 stages and 16 places free, the deepest net and the deepest search that there are: size 16 KiB, measure and
- * choose 14 KiB, refine 6 KiB. The rest is margin; it covers what the dynamic linker may use when the C library's memcpy is
+ * choose 14 KiB, refine 4 KiB. The rest is margin; it covers what the dynamic linker may use when the C library's memcpy is
  * called for the first time (3 KiB more). tests/tests/stack.rs measures it again.
  *
  * Time. A call ends on every input. How long it takes depends on the job and is not promised.
