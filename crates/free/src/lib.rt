@@ -90,7 +90,8 @@ pub fn skip(job: &[u8], counts: Counts, lower: &[u8], upper: &[u8], skips: &mut 
     }
 }
 
-// A free place as the search tries its indices: what stays as it is whatever the index there, but for the loads that arrive behind it.
+// A free place as the search tries its indices, from `low` to `top`: where the table of its layer starts, its length, its weight, the resistance
+// upstream before it and the load of the held places that it drives. All stays as it is whatever the indices of the free places.
 pub struct FreePlace {
     pub place: usize,
     pub rows: usize,
