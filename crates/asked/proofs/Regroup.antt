@@ -12,14 +12,15 @@ use lib.Dec.{leb, ltb, eqb, leb·zero}
 use lib.ListN.{length}
 use Rattle.lattice.specs.Lists.{every}
 use Rattle.net.specs.declared.Counts.{Counts}
-use Rattle.net.specs.Job.{byte, records, widthAt, widthLayer, widthsOf, firstRow, segmentAt, segmentSink, segmentLength, sinkCapacitance, segmentLayer}
-use Rattle.net.specs.Questions.{inRange, question1, question24, question3, question4, zeros, sinkOrZero, question5, question6, question7, question8, question10, question23}
+use Rattle.net.specs.Job.{byte, records, weightRecords, placesBy, widthAt, widthLayer, widthsOf, firstRow, segmentAt, segmentSink, segmentLength, sinkCapacitance, segmentLayer, weightSegment, weightForm, weightWhole}
+use Rattle.net.specs.Questions.{inRange, question1, question24, question3, question4, zeros, sinkOrZero, question5, question6, question7, question8, question10, question23, question20}
 use Rattle.job.specs.Runs.{byteOf}
 use Rattle.runs.specs.Records.{byteInOrder, numberInOrder, zeroBytes, byteWithin, wordWithin, rowsInOrder, rangeWithin}
 use Rattle.segments.specs.Tests.{segmentFits}
+use Rattle.weight_records.specs.Tests.{segmentsRise, unnamedZero, weightFits}
 use Rattle.net.proofs.Records.{layer-0, layer-1}
-use Rattle.asked.specs.Parts.{topLayer, repeatersZero}
-use Rattle.asked.proofs.Zeros.{zero-word, zero-words, zero-behind}
+use Rattle.asked.specs.Parts.{topLayer, repeatersZero, firstWeight}
+use Rattle.asked.proofs.Zeros.{zero-word, zero-words, zero-behind, weight-zero}
 use Rattle.lattice.proofs.Every.{every-and, every-same}
 
 both : {p q r s : Bool} → p ≡ r → q ≡ s → p && q ≡ r && s
@@ -35,6 +36,9 @@ firstRepeater c = c .widths + c .sizes + (c .stages + c .segments)
 
 pub repeater-at : (c : Counts) (k : ℕ) → firstRepeater c + k ≡ c .widths + c .sizes + (c .stages + c .segments + k)
 repeater-at c k = add-assoc (c .widths + c .sizes) (c .stages + c .segments) k
+
+weight-at : (c : Counts) (k : ℕ) → firstWeight c + k ≡ c .widths + c .sizes + (placesBy c + k)
+weight-at c k = add-assoc (c .widths + c .sizes) (placesBy c) k
 
 module _ (b : List ℕ) where
   -- the length is sixteen times the count of whole records exactly where nothing is left over
@@ -100,16 +104,18 @@ module _ (c : Counts) (b : List ℕ) where
       (e ∙ both (every-same _ _ _ (λ k h. rw (zero-add k))) (every-same _ _ _ (λ k h. rw (add-one k, zero-add k, zero-add (suc k)))))
       (f ∙ every-same _ _ _ (λ i h. rw (d, add-assoc (c .widths + c .sizes) (c .stages) i) (named-layer (ltb 0 (widthsOf c 1)) (segmentLayer c b i))) ∙ every-and (c .segments) known held)
 
-  pub question4-by : {p q r s t u : Bool} → p ≡ every (c .layer0) (numberInOrder b 0) → q ≡ every (c .widths - c .layer0) (numberInOrder b (c .layer0))
+  pub question4-by : {n : ℕ} {p q r s t u v : Bool} → n ≡ weightRecords b → p ≡ every (c .layer0) (numberInOrder b 0) → q ≡ every (c .widths - c .layer0) (numberInOrder b (c .layer0))
       → r ≡ every (c .sizes) (numberInOrder b (c .widths)) → s ≡ every (c .stages) (numberInOrder b (c .widths + c .sizes))
       → t ≡ every (c .segments) (numberInOrder b (c .widths + c .sizes + c .stages))
-      → u ≡ every (c .repeaters) (numberInOrder b (firstRepeater c)) → p && q && (r && (s && (t && u))) ≡ question4 c b
+      → u ≡ every (c .repeaters) (numberInOrder b (firstRepeater c)) → v ≡ every (n - 1) (segmentsRise b (firstWeight c))
+      → p && q && (r && (s && (t && (u && v)))) ≡ question4 c b
   unfolding question4
-  question4-by {p} {q} d e f g h i =
+  question4-by {n} {p} {q} a d e f g h i j =
       both (both-layers (λ l. every (widthsOf c l) (λ k. eqb (byte b (widthAt (firstRow c l + k) + 1)) k)) p q (rw (layer-0 c .0, layer-0 c .1) d) (rw (others c, layer-1 c 1 (λ z. omega (arith, z)) .1) e))
       (both f (both g
       (both (h ∙ every-same _ _ _ (λ k l. rw (add-assoc (c .widths + c .sizes) (c .stages) k)))
-      (i ∙ every-same _ _ _ (λ k l. rw (repeater-at c k))))))
+      (both (i ∙ every-same _ _ _ (λ k l. rw (repeater-at c k)))
+      (j ∙ rw a (every-same _ _ _ (λ k l. rw (add-one k, weight-at c k, weight-at c (suc k)))))))))
 
   pub repeaters-zero-by : {p q r : Bool} → p ≡ every (c .repeaters) (zeroBytes b (firstRepeater c) 5 3)
       → q ≡ every (c .repeaters) (wordWithin b (firstRepeater c) 8 0 0) → r ≡ every (c .repeaters) (wordWithin b (firstRepeater c) 12 0 0)
@@ -117,14 +123,14 @@ module _ (c : Counts) (b : List ℕ) where
   unfolding zeros
   repeaters-zero-by d e f = two _ _ _ d (two _ _ _ e f) ∙ every-same _ _ _ (λ k m. zero-behind b (firstRepeater c) k ∙ rw (repeater-at c k))
 
-  pub question5-by : {p q r s t u v : Bool} → p ≡ every (c .widths) (zeroBytes b 0 3 1) → q ≡ every (c .widths) (wordWithin b 0 12 0 0)
+  pub question5-by : {n : ℕ} {p q r s t u v w : Bool} → n ≡ weightRecords b → p ≡ every (c .widths) (zeroBytes b 0 3 1) → q ≡ every (c .widths) (wordWithin b 0 12 0 0)
       → r ≡ every (c .sizes) (zeroBytes b (c .widths) 2 2) → s ≡ every (c .stages) (wordWithin b (c .widths + c .sizes) 4 0 0)
       → t ≡ every (c .stages) (wordWithin b (c .widths + c .sizes) 8 0 0) → u ≡ every (c .stages) (wordWithin b (c .widths + c .sizes) 12 0 0)
-      → v ≡ repeatersZero c b → p && q && (r && (s && (t && u) && v)) ≡ question5 c b
+      → v ≡ repeatersZero c b → w ≡ every n (unnamedZero b (firstWeight c)) → p && q && (r && (s && (t && u) && (v && w))) ≡ question5 c b
   unfolding question5 zeros
-  question5-by d e f g h i j =
+  question5-by a d e f g h i j l =
       both (two _ _ _ d (e ∙ every-same _ _ _ (λ k m. zero-word b 0 12 k)) ∙ every-same _ _ _ (λ k m. rw (zero-add k)))
-      (both f (both (two _ _ _ g (two _ _ _ h i) ∙ every-same _ _ _ (λ k m. zero-words b (c .widths + c .sizes) k)) j))
+      (both f (both (two _ _ _ g (two _ _ _ h i) ∙ every-same _ _ _ (λ k m. zero-words b (c .widths + c .sizes) k)) (both j (l ∙ rw a (every-same _ _ _ (λ k m. weight-zero b c (firstWeight c) k (weight-at c k)))))))
 
   pub question6-by : {p q r s t : Bool} → p ≡ every (c .widths) (wordWithin b 0 4 1 100) → q ≡ every (c .widths) (wordWithin b 0 8 1 100)
       → r ≡ every (c .sizes) (wordWithin b (c .widths) 4 1 100000) → s ≡ every (c .sizes) (wordWithin b (c .widths) 8 1 100000)
@@ -162,3 +168,9 @@ module _ (c : Counts) (b : List ℕ) where
   pub question23-by : {p : Bool} → p ≡ every (c .repeaters) (rangeWithin b (firstRepeater c) 3 (c .sizes)) → p ≡ question23 c b
   unfolding question23
   question23-by d = d ∙ every-same _ _ _ (λ k l. rw (repeater-at c k))
+
+  pub question20-by : {n : ℕ} {p : Bool} → n ≡ weightRecords b
+      → p ≡ every n (weightFits b (c .widths + c .sizes + c .stages) (c .segments) (firstWeight c)) → p ≡ question20 c b
+  unfolding question20
+  question20-by a d = d ∙ rw a (every-same _ _ _ (λ k l. rw (weight-at c k, add-assoc (c .widths + c .sizes) (c .stages) (weightSegment c b k))
+      (and-assoc (ltb (weightSegment c b k) (c .segments)) (not (eqb (segmentSink c b (weightSegment c b k)) 0)) (leb (weightForm c b k) 2 && (not (eqb (weightForm c b k) 1) || leb (weightWhole c b k) 255)))))

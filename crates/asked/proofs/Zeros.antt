@@ -1,18 +1,21 @@
 -- A word is 0 exactly where its four bytes are, so zero bytes can be tested a word at a time.
-use mathlib.Core.Path.{_≡_, _∙_, refl, ap, ap₂}
-use mathlib.Core.Bool.{Bool, true, false, _&&_, and-true}
+use mathlib.Core.Path.{_≡_, _∙_, refl, sym, ap, ap₂}
+use mathlib.Core.Bool.{Bool, true, false, _&&_, _||_, and-true}
 use mathlib.Core.List.{List}
 use Prim.Native.Nat.{ℕ, zero, suc, _+_, _*_, _≤_, _<_}
 use native.Mathlib.Nat.{add-zero, add-suc}
 use native.Mathlib.Omega.{arith}
-use lib.Dec.{T, leb, eqb, le→leb, eqb→eq, lit<}
+use borrow.Author.Tests.{ne-eqb, lt-leb}
+use lib.Dec.{T, leb, eqb, leb·zero, le→leb, eqb→eq, lit<}
 use Rattle.lattice.specs.Lists.{every}
 use Rattle.lattice.proofs.Every.{every-same}
 use Rattle.lattice.proofs.ListLaws.{T-and, eq-T, every-at}
-use Rattle.net.specs.Job.{byte, word}
-use Rattle.net.specs.Questions.{inRange}
+use Rattle.net.specs.declared.Counts.{Counts}
+use Rattle.net.specs.Job.{byte, word, placesBy, weightAt, weightForm}
+use Rattle.net.specs.Questions.{inRange, zeros, weightZeros}
 use Rattle.net.proofs.Questions.{in-range}
 use Rattle.runs.specs.Records.{zeroBytes, wordWithin}
+use Rattle.weight_records.specs.Tests.{unnamedZero}
 
 -- two tests that give each other are one
 same-test : (a b : Bool) → (T a → T b) → (T b → T a) → a ≡ b
@@ -78,3 +81,22 @@ module _ (b : List ℕ) where
   zero-behind start k =
       let p : ℕ = 16 * (start + k) in
       ap (λ t. zeroBytes b start 5 3 k && t) (words-zero (p + 8) (p + 12) (omega arith)) ∙ zeros-join (p + 5) (p + 8) 3 8 (omega arith)
+
+  -- the tests of a weight record's bytes, a word at a time
+  zero-within : (w : ℕ) → eqb w 0 ≡ inRange 0 0 w
+  zero-within zero = refl
+  zero-within (suc w) = rw (ne-eqb (suc w) 0 (λ e. omega arith), leb·zero (suc w), lt-leb (suc w) 0 (omega arith))
+
+  one-byte : (p : ℕ) → eqb (byte b p) 0 ≡ every 1 (zeroAt p)
+  unfolding every
+  one-byte p = rw (add-zero p) (sym (and-true (eqb (byte b p) 0)))
+
+  pub weight-zero : (c : Counts) (start k : ℕ) → start + k ≡ c .widths + c .sizes + (placesBy c + k) → unnamedZero b start k ≡ weightZeros c b k
+  unfolding weightZeros zeros
+  weight-zero c start k e =
+      let p : ℕ = weightAt c k in
+      rw e
+      (ap₂ _&&_ (one-byte (p + 3))
+      (ap₂ _&&_
+      (ap (λ t. eqb (weightForm c b k) 1 || t) (zero-within (word b (p + 4)) ∙ word-zero (p + 4)))
+      (ap (λ t. eqb (weightForm c b k) 2 || t) (ap₂ _&&_ (zero-within (word b (p + 8))) (zero-within (word b (p + 12))) ∙ words-zero (p + 8) (p + 12) (omega arith)))))

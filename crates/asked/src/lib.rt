@@ -1,14 +1,14 @@
-// Each of the questions 1 to 8 and 22 to 24 by itself. Within a question all tests are asked, by `&`: a proof then has one way through it.
+// Each of the questions 1 to 8, 20 and 22 to 24 by itself. Within a question all tests are asked, by `&`: a proof then has one way through it.
 use kinds::RunEnds;
 use net::Counts;
 ghost use mathlib.Core.Path.{_≡_};
 ghost use Prim.Native.Nat.{_≤_};
 ghost use Rattle.net.specs.Job.{records};
 ghost use Rattle.net.specs.Net.{netBy};
-ghost use Rattle.net.specs.Questions.{question1, question2, question24, question3, question4, question5, question6, question7, question8, question22, question23};
-ghost use Rattle.net.specs.Checked.{Held};
+ghost use Rattle.net.specs.Questions.{question1, question2, question24, question3, question4, question5, question6, question7, question8, question22, question23, question20};
+ghost use Rattle.net.specs.Checked.{Held, WeightsHeld};
 ghost use Rattle.kinds.specs.Kinds.{EndsOf};
-ghost use Rattle.asked.specs.Parts.{topLayer, repeatersZero, Counted, Firsts};
+ghost use Rattle.asked.specs.Parts.{topLayer, repeatersZero, firstWeight, CountsFit, Counted, Firsts};
 
 // Question 1, of n whole records: is the length above 0 and a multiple of 16?
 pub fn question1(job: &[u8], n: usize) -> bool
@@ -18,13 +18,13 @@ pub fn question1(job: &[u8], n: usize) -> bool
     (0 < job.len()) & (16 * n == job.len())
 }
 
-// Question 2, of n records: is every kind 1 to 5, never falling? It is where the runs of the kinds, one behind another, cover all.
+// Question 2, of n records: is every kind 1 to 6, never falling? It is where the runs of the kinds, one behind another, cover all.
 pub fn question2(job: &[u8], n: usize, ends: RunEnds) -> bool
     requires { ⌜ n ≡ records (now job) ⌝ }
     requires { ⌜ EndsOf (now job) n ends ⌝ }
     ensures { λ r. ⌜ r ≡ question2 (now (job .entry)) ⌝ }
 {
-    ends.repeaters == n
+    ends.weights == n
 }
 
 // The highest layer that has widths.
@@ -64,10 +64,19 @@ pub fn question3(counts: Counts) -> bool
     first & (second & (sizes & (stages & (segments & repeaters))))
 }
 
-// Question 4: do numbers count from 0 in each kind, those of widths in each layer? The segments come last, so that the compiler keeps no answer
-// while it goes through the longest run.
-pub fn question4(job: &[u8], counts: Counts) -> bool
+// Where among all records the weight records start.
+fn first_weight(counts: Counts) -> usize
+    requires { ⌜ CountsFit counts ⌝ }
+    ensures { λ r. ⌜ r ≡ firstWeight counts ⌝ }
+{
+    counts.widths + counts.sizes + (counts.stages + counts.segments + counts.repeaters)
+}
+
+// Question 4, of n weight records: do numbers count from 0 in each of the kinds 1 to 5, those of widths in each layer, and does byte 1 of weight
+// records strictly rise? The segments come last, so that the compiler keeps no answer while it goes through the longest run.
+pub fn question4(job: &[u8], counts: Counts, n: usize) -> bool
     requires { ⌜ Held counts (now job) ⌝ }
+    requires { ⌜ WeightsHeld counts (now job) n ⌝ }
     ensures { λ r. ⌜ r ≡ question4 counts (now (job .entry)) ⌝ }
 {
     let places = counts.widths + counts.sizes;
@@ -77,8 +86,9 @@ pub fn question4(job: &[u8], counts: Counts) -> bool
     let stages = runs::numbers_in_order(job, places, counts.stages);
     let start = places + (counts.stages + counts.segments);
     let repeaters = runs::numbers_in_order(job, start, counts.repeaters);
+    let weights = weight_records::segments_rise(job, first_weight(counts), n);
     let segments = runs::numbers_in_order(job, places + counts.stages, counts.segments);
-    (first & second) & (sizes & (stages & (segments & repeaters)))
+    (first & second) & (sizes & (stages & (segments & (repeaters & weights))))
 }
 
 // Are the unnamed bytes of the repeaters zero: the last three of the second word, and the two words behind it?
@@ -93,9 +103,10 @@ fn repeaters_zero(job: &[u8], counts: Counts) -> bool
     second & (third & fourth)
 }
 
-// Question 5: are all unnamed bytes zero?
-pub fn question5(job: &[u8], counts: Counts) -> bool
+// Question 5, of n weight records: are all unnamed bytes zero?
+pub fn question5(job: &[u8], counts: Counts, n: usize) -> bool
     requires { ⌜ Held counts (now job) ⌝ }
+    requires { ⌜ WeightsHeld counts (now job) n ⌝ }
     ensures { λ r. ⌜ r ≡ question5 counts (now (job .entry)) ⌝ }
 {
     let places = counts.widths + counts.sizes;
@@ -107,7 +118,8 @@ pub fn question5(job: &[u8], counts: Counts) -> bool
     let fourth = runs::words_within(job, places, counts.stages, 12, 0, 0);
     let stages = second & (third & fourth);
     let repeaters = repeaters_zero(job, counts);
-    (before & behind) & (sizes & (stages & repeaters))
+    let weights = weight_records::unnamed_zero(job, first_weight(counts), n);
+    (before & behind) & (sizes & (stages & (repeaters & weights)))
 }
 
 // Question 6: are the values of kinds 1 and 2 in range?
@@ -164,4 +176,15 @@ pub fn question23(job: &[u8], counts: Counts) -> bool
 {
     let start = counts.widths + counts.sizes + (counts.stages + counts.segments);
     runs::ranges_within(job, start, counts.repeaters, 3, counts.sizes)
+}
+
+// Question 20, of n weight records: is the segment of every weight record there, has it a sink, is the form at most 2, and a whole number at most 255?
+pub fn question20(job: &[u8], counts: Counts, n: usize) -> bool
+    requires { ⌜ Held counts (now job) ⌝ }
+    requires { ⌜ WeightsHeld counts (now job) n ⌝ }
+    ensures { λ r. ⌜ r ≡ question20 counts (now (job .entry)) ⌝ }
+{
+    let segments = counts.widths + counts.sizes + counts.stages;
+    let start = first_weight(counts);
+    weight_records::weights_fit(job, segments, counts.segments, start, n)
 }

@@ -7,7 +7,7 @@ ghost use mathlib.Core.Path.{_≡_};
 ghost use Prim.Native.Nat.{_<_};
 ghost use Rattle.net.specs.Job.{placesBy};
 ghost use Rattle.net.specs.Net.{netBy};
-ghost use Rattle.net.specs.Checked.{Checked, AllowedBy};
+ghost use Rattle.net.specs.Checked.{Checked, SinkWeights, AllowedBy};
 ghost use Rattle.net.specs.Order.{placedBy};
 ghost use Rattle.stages.specs.Ready.{Ready};
 ghost use Rattle.parts.specs.Seats.{Seated};
@@ -49,8 +49,9 @@ fn drives(job: &[u8], counts: Counts, seats: &[u8; 64], p: usize) -> usize
 }
 
 // The weight of place p: of a segment that of the sinks at or below its far end, of a driver twice that of the sinks that it drives.
-fn weight_at(job: &[u8], counts: Counts, nodes: &[u64; 195], p: usize) -> u64
+fn weight_at(job: &[u8], counts: Counts, weights: &[u8; 64], nodes: &[u64; 195], p: usize) -> u64
     requires { ⌜ Checked counts (now job) ⌝ }
+    requires { ⌜ SinkWeights counts (now job) (now weights) ⌝ }
     requires { ⌜ WeightsCounted (netBy counts (now job)) (now nodes) ⌝ }
     requires { ⌜ p < placesBy counts ⌝ }
     ensures { λ r. ⌜ r ≡ placedBy counts (now (job .entry)) .weight p ⌝ }
@@ -60,7 +61,7 @@ fn weight_at(job: &[u8], counts: Counts, nodes: &[u64; 195], p: usize) -> u64
     }
     let i = p - counts.stages;
     if i < counts.segments {
-        return job::weight(job, counts, i) + parts::part_at(nodes, i + 1).weight;
+        return job::weight(weights, i) + parts::part_at(nodes, i + 1).weight;
     }
     let site = job::site(job, counts, i - counts.segments);
     2 * parts::part_at(nodes, site + 1).weight
@@ -100,6 +101,7 @@ fn driven_at(
 fn upstream_of(
     job: &[u8],
     counts: Counts,
+    weights: &[u8; 64],
     sizing: &[u8],
     seats: &[u8; 64],
     nodes: &[u64; 195],
@@ -107,6 +109,7 @@ fn upstream_of(
 ) -> Resistance
     requires { ⌜ Checked counts (now job) ⌝ }
     requires { ⌜ AllowedBy counts (now job) (now sizing) ⌝ }
+    requires { ⌜ SinkWeights counts (now job) (now weights) ⌝ }
     requires { ⌜ Seated (netBy counts (now job)) (now seats) ⌝ }
     requires { ⌜ WeightsCounted (netBy counts (now job)) (now nodes) ⌝ }
     requires { ⌜ p < placesBy counts ⌝ }
@@ -116,7 +119,7 @@ fn upstream_of(
     let mut a = p;
     while a > 0 {
         a = drives(job, counts, seats, a);
-        let weight = weight_at(job, counts, nodes, a);
+        let weight = weight_at(job, counts, weights, nodes, a);
         sum = quantity::add_resistance(sum, place::slope(job, counts, weight, a, sizing[a]));
         if job::is_driver(counts, a) {
             return sum;
@@ -127,8 +130,15 @@ fn upstream_of(
 
 // The best indices at a place of an allowed sizing, and the delay that they reach. With the index at the place the delay changes as what the index
 // costs there, so the net is not evaluated for each.
-pub fn refine_at(job: &[u8], counts: Counts, sizing: &[u8], place: usize) -> EndsAndDelay
+pub fn refine_at(
+    job: &[u8],
+    counts: Counts,
+    weights: &[u8; 64],
+    sizing: &[u8],
+    place: usize,
+) -> EndsAndDelay
     requires { ⌜ Checked counts (now job) ⌝ }
+    requires { ⌜ SinkWeights counts (now job) (now weights) ⌝ }
     requires { ⌜ AllowedBy counts (now job) (now sizing) ⌝ }
     requires { ⌜ place < placesBy counts ⌝ }
     ensures { λ r. ⌜ ReachedBy counts (now (job .entry)) (now (sizing .entry)) place r ⌝ }
@@ -137,12 +147,12 @@ pub fn refine_at(job: &[u8], counts: Counts, sizing: &[u8], place: usize) -> End
     let mut seats = [8u8; 64];
     parts::seat(job, counts, &mut seats);
     let mut nodes = [0u64; 195];
-    nodes::count_up(job, counts, sizing, &seats, &mut nodes);
+    nodes::count_up(job, counts, weights, sizing, &seats, &mut nodes);
     let source = parts::part_at(&nodes, 0);
     let lent = parts::behind_stages(job, counts, sizing, source).delay;
-    let weight = weight_at(job, counts, &nodes, place);
+    let weight = weight_at(job, counts, weights, &nodes, place);
     let load = driven_at(job, counts, sizing, &seats, &nodes, place);
-    let before = upstream_of(job, counts, sizing, &seats, &nodes, place);
+    let before = upstream_of(job, counts, weights, sizing, &seats, &nodes, place);
     let ends = refine::settle(job, counts, weight, before, place, load);
     let own = place::step_at(job, counts, weight, before, place, sizing[place], load).delay;
     EndsAndDelay {

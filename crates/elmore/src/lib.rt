@@ -12,6 +12,7 @@ ghost use mathlib.Core.Path.{_≡_};
 ghost use Prim.Native.Nat.{suc, _<_, _≤_};
 ghost use lib.ListN.{length};
 ghost use Rattle.net.specs.Net.{netBy};
+ghost use Rattle.net.specs.Checked.{SinkWeights};
 ghost use Rattle.net.specs.Delay.{delay as delayOf};
 ghost use Rattle.links.specs.Links.{siblings, LinkedBy};
 ghost use Rattle.stages.specs.Ready.{Ready};
@@ -50,14 +51,21 @@ fn put_segment(segments: &mut [u64; 256], i: usize, s: Segment)
 }
 
 // The table of segments, as the sizing has them: the walk over the tree then reads no job.
-fn size_segments(job: &[u8], counts: Counts, sizing: &[u8], segments: &mut [u64; 256])
+fn size_segments(
+    job: &[u8],
+    counts: Counts,
+    weights: &[u8; 64],
+    sizing: &[u8],
+    segments: &mut [u64; 256],
+)
     requires { ⌜ Ready counts (now job) (now sizing) ⌝ }
+    requires { ⌜ SinkWeights counts (now job) (now weights) ⌝ }
     requires { ⌜ length (now segments) ≡ 256 ⌝ }
     ensures { λ r. ⌜ SizedTo (netBy counts (now (job .entry))) (now (sizing .entry)) (counts .segments) (now (segments .exit)) ⌝ }
 {
     let mut i = 0;
     while i < counts.segments {
-        put_segment(segments, i, parts::sized(job, counts, sizing, i));
+        put_segment(segments, i, parts::sized(job, counts, weights, sizing, i));
         i += 1;
     }
 }
@@ -156,14 +164,16 @@ fn whole(
     counts: Counts,
     first: &[usize; 65],
     next: &[usize; 64],
+    weights: &[u8; 64],
     sizing: &[u8],
 ) -> PartAndCharge
     requires { ⌜ Ready counts (now job) (now sizing) ⌝ }
     requires { ⌜ LinkedBy counts (now job) (now first) (now next) ⌝ }
+    requires { ⌜ SinkWeights counts (now job) (now weights) ⌝ }
     ensures { λ r. ⌜ WholeOf (netBy counts (now (job .entry))) (now (sizing .entry)) r ⌝ }
 {
     let mut segments = [0u64; 256];
-    size_segments(job, counts, sizing, &mut segments);
+    size_segments(job, counts, weights, sizing, &mut segments);
     // by segment the repeater at its far end; 8 where there is none, because there are at most eight
     let mut seats = [8u8; 64];
     parts::seat(job, counts, &mut seats);
@@ -215,13 +225,20 @@ pub fn delay(
     counts: Counts,
     first: &[usize; 65],
     next: &[usize; 64],
+    weights: &[u8; 64],
     sizing: &[u8],
 ) -> Delay
     requires { ⌜ Ready counts (now job) (now sizing) ⌝ }
     requires { ⌜ LinkedBy counts (now job) (now first) (now next) ⌝ }
+    requires { ⌜ SinkWeights counts (now job) (now weights) ⌝ }
     ensures { λ r. ⌜ r .0 ≡ delayOf (netBy counts (now (job .entry))) (now (sizing .entry)) ⌝ }
 {
-    driven(job, counts, sizing, whole(job, counts, first, next, sizing)).delay
+    driven(
+        job,
+        counts,
+        sizing,
+        whole(job, counts, first, next, weights, sizing),
+    ).delay
 }
 
 // The scaled delay and the load figure of a sizing.
@@ -230,11 +247,18 @@ pub fn figures(
     counts: Counts,
     first: &[usize; 65],
     next: &[usize; 64],
+    weights: &[u8; 64],
     sizing: &[u8],
 ) -> DelayAndLoad
     requires { ⌜ Ready counts (now job) (now sizing) ⌝ }
     requires { ⌜ LinkedBy counts (now job) (now first) (now next) ⌝ }
+    requires { ⌜ SinkWeights counts (now job) (now weights) ⌝ }
     ensures { λ r. ⌜ FiguresOf (netBy counts (now (job .entry))) (now (sizing .entry)) r ⌝ }
 {
-    driven(job, counts, sizing, whole(job, counts, first, next, sizing))
+    driven(
+        job,
+        counts,
+        sizing,
+        whole(job, counts, first, next, weights, sizing),
+    )
 }

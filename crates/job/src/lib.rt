@@ -6,7 +6,8 @@ use text::widened;
 ghost use mathlib.Core.Path.{_≡_};
 ghost use Prim.Native.Nat.{_+_, _*_, _^_, _<_, _≤_};
 ghost use lib.ListN.{length};
-ghost use Rattle.net.specs.Job.{byte, word, widthAt, widthsOf, firstRow, sizeAt, placeAt, segmentAt, segmentLength, segmentLayer, placesBy};
+ghost use Rattle.lattice.specs.Lists.{at};
+ghost use Rattle.net.specs.Job.{byte, word, widthAt, widthsOf, firstRow, sizeAt, placeAt, segmentAt, segmentLength, segmentLayer, placesBy, weightAt};
 ghost use Rattle.net.specs.Net.{netBy};
 ghost use Rattle.net.specs.Checked.{Held};
 ghost use Rattle.job.specs.WireAt.{WireAt};
@@ -87,13 +88,12 @@ pub fn parent(job: &[u8], counts: Counts, i: usize) -> usize
     index(job[16 * (counts.widths + counts.sizes + (counts.stages + i)) + 2])
 }
 
-// The weight of segment i's sink.
-pub fn weight(job: &[u8], counts: Counts, i: usize) -> u64
-    requires { ⌜ Held counts (now job) ⌝ }
-    requires { ⌜ i < counts .segments ⌝ }
-    ensures { λ r. ⌜ r ≡ netBy counts (now (job .entry)) .weight i ⌝ }
+// The weight of segment i's sink, by the table that a job's check fills.
+pub fn weight(weights: &[u8; 64], i: usize) -> u64
+    requires { ⌜ i < 64 ⌝ }
+    ensures { λ r. ⌜ r ≡ at (now (weights .entry)) i ⌝ }
 {
-    widened(job[16 * (counts.widths + counts.sizes + (counts.stages + i)) + 12])
+    widened(weights[i])
 }
 
 // The capacitance of segment i's sink.
@@ -253,6 +253,24 @@ pub fn site(job: &[u8], counts: Counts, r: usize) -> usize
     ensures { λ s. ⌜ s ≡ netBy counts (now (job .entry)) .site r ⌝ }
 {
     index(job[16 * (counts.widths + counts.sizes + (counts.stages + counts.segments + r)) + 2])
+}
+
+// The byte at `at` of weight record w.
+pub fn weight_byte(job: &[u8], counts: Counts, w: usize, at: usize) -> usize
+    requires { ⌜ (weightAt counts w + 16 ≤ length (now job)) × (at < 16) ⌝ }
+    ensures { λ r. ⌜ (r ≡ byte (now (job .entry)) (weightAt counts w + at)) × (r < 256) ⌝ }
+{
+    let places = counts.stages + counts.segments + counts.repeaters;
+    index_at(job, 16 * (counts.widths + counts.sizes + (places + w)) + at)
+}
+
+// The word at `at` of weight record w.
+pub fn weight_word(job: &[u8], counts: Counts, w: usize, at: usize) -> u64
+    requires { ⌜ (weightAt counts w + 16 ≤ length (now job)) × (at ≤ 12) ⌝ }
+    ensures { λ r. ⌜ (r ≡ word (now (job .entry)) (weightAt counts w + at)) × (r < 2 ^ 32) ⌝ }
+{
+    let places = counts.stages + counts.segments + counts.repeaters;
+    word_at(job, 16 * (counts.widths + counts.sizes + (places + w)) + at)
 }
 
 // Is place p a driver, and not a wire? A stage's number less the count of stages wraps round to one above all, so one comparison tells a stage and a

@@ -1,4 +1,4 @@
--- Where the run of each kind of record ends: question 2 passes exactly where the runs of the five kinds, one behind another, cover all records, and
+-- Where the run of each kind of record ends: question 2 passes exactly where the runs of the six kinds, one behind another, cover all records, and
 -- then the count of a kind is the length of its run; all widths are in the first.
 use mathlib.Core.Path.{_≡_, _∙_, refl, sym}
 use mathlib.Core.Bool.{Bool, true, false, not, _&&_, true≢false}
@@ -25,9 +25,9 @@ use Rattle.kinds.specs.Counted.{layer0In, countsTo}
 pub kinds-known : (b : List ℕ) {r : Bool} → r ≡ question2 b → not r ≡ false → Kinds b (records b)
 unfolding question2
 kinds-known b {r} e t =
-    let a = and-T (every (records b) (λ k. inRange 1 5 (kind b k))) (every (records b - 1) (λ k. leb (kind b k) (kind b (suc k)))) (rw (sym e ∙ not-false r t) tt) in
+    let a = and-T (every (records b) (λ k. inRange 1 6 (kind b k))) (every (records b - 1) (λ k. leb (kind b k) (kind b (suc k)))) (rw (sym e ∙ not-false r t) tt) in
     record {
-      known = λ k h. in-range 1 5 (kind b k) (every-at (records b) (λ k. inRange 1 5 (kind b k)) (a .0) k h);
+      known = λ k h. in-range 1 6 (kind b k) (every-at (records b) (λ k. inRange 1 6 (kind b k)) (a .0) k h);
       order = never-falls (kind b) (records b) (λ k h. leb→le _ _ (every-at (records b - 1) (λ k. leb (kind b k) (kind b (suc k))) (a .1) k h));
     }
 
@@ -35,11 +35,11 @@ kinds-known b {r} e t =
 kinds-pass : (b : List ℕ) → Kinds b (records b) → true ≡ question2 b
 unfolding question2
 kinds-pass b h =
-    let known : ℕ → Bool = λ k. inRange 1 5 (kind b k) in
+    let known : ℕ → Bool = λ k. inRange 1 6 (kind b k) in
     let order : ℕ → Bool = λ k. leb (kind b k) (kind b (suc k)) in
     let least : (k : ℕ) → k < records b → T (leb 1 (kind b k)) = λ k l. le→leb 1 (kind b k) (h .known k l .0) in
-    let most : (k : ℕ) → k < records b → T (leb (kind b k) 5) = λ k l. le→leb (kind b k) 5 (h .known k l .1) in
-    let a = at-every (records b) known (λ k l. T-and (leb 1 (kind b k)) (leb (kind b k) 5) (least k l) (most k l)) in
+    let most : (k : ℕ) → k < records b → T (leb (kind b k) 6) = λ k l. le→leb (kind b k) 6 (h .known k l .1) in
+    let a = at-every (records b) known (λ k l. T-and (leb 1 (kind b k)) (leb (kind b k) 6) (least k l) (most k l)) in
     let o = at-every (records b - 1) order (λ k l. le→leb (kind b k) (kind b (suc k)) (h .order k (suc k) (omega arith) (omega arith))) in
     rw (is-true (every (records b) known) a, is-true (every (records b - 1) order) o)
 
@@ -81,7 +81,7 @@ module _ (b : List ℕ) (k : ℕ) {m v : ℕ} (e : m ≡ layer0In b k) (f : v �
   unfolding countIf
   counts-no-more z = rw (add-one k, layer-is, ne-eqb v 0 z) (omega (arith, e))
 
--- Of n records the first r are of kinds 1 to m and never fall; and where the kinds of all are 1 to 5 and never fall, the others are above m.
+-- Of n records the first r are of kinds 1 to m and never fall; and where the kinds of all are 1 to 6 and never fall, the others are above m.
 record Front (b : List ℕ) (n m r : ℕ) : Type 0 where
   within : r ≤ n
   kinds : Kinds b r
@@ -103,7 +103,7 @@ module _ {b : List ℕ} {n m p q : ℕ} (x : Front b n m p) (y : RunEnd b n (suc
   upto-next k l (yes a) = omega (arith, x .before k a)
   upto-next k l (no a) = omega (arith, y .run .alike k (omega arith) l)
 
-  known-next : suc m ≤ 5 → (k : ℕ) → k < q → Dec (k < p) → (1 ≤ kind b k) × (kind b k ≤ 5)
+  known-next : suc m ≤ 6 → (k : ℕ) → k < q → Dec (k < p) → (1 ≤ kind b k) × (kind b k ≤ 6)
   known-next h k l (yes a) = x .kinds .known k a
   known-next h k l (no a) = let e = y .run .alike k (omega arith) l in (omega (arith, e), omega (arith, e))
 
@@ -121,7 +121,7 @@ module _ {b : List ℕ} {n m p q : ℕ} (x : Front b n m p) (y : RunEnd b n (suc
           let v = x .behind h q (y .run .starts) (omega arith) in
           absurd (y .stops (omega arith) (omega (arith, o, v, a)))
 
-  front-next : suc m ≤ 5 → Front b n (suc m) q
+  front-next : suc m ≤ 6 → Front b n (suc m) q
   front-next h =
       record {
         within = y .run .within;
@@ -156,23 +156,26 @@ module _ {b : List ℕ} {n : ℕ} {r : RunEnds} (a : EndsOf b n r) where
   front-5 : Front b n 5 (r .repeaters)
   front-5 = front-next front-4 (a .repeaters) (omega arith)
 
-  -- a record behind the last run would be of a kind above 5
-  all-covered : Kinds b n → r .repeaters ≡ n
-  all-covered h = go (decLe n (r .repeaters))
+  front-6 : Front b n 6 (r .weights)
+  front-6 = front-next front-5 (a .weights) (omega arith)
+
+  -- a record behind the last run would be of a kind above 6
+  all-covered : Kinds b n → r .weights ≡ n
+  all-covered h = go (decLe n (r .weights))
     where
-      go : Dec (n ≤ r .repeaters) → r .repeaters ≡ n
-      go (yes l) = omega (arith, front-5 .within)
+      go : Dec (n ≤ r .weights) → r .weights ≡ n
+      go (yes l) = omega (arith, front-6 .within)
       go (no l) =
-          let a = front-5 .behind h (r .repeaters) (omega arith) (omega arith) in
-          absurd (omega (arith, a, h .known (r .repeaters) (omega arith) .1))
+          let a = front-6 .behind h (r .weights) (omega arith) (omega arith) in
+          absurd (omega (arith, a, h .known (r .weights) (omega arith) .1))
 
   -- Question 2 passes exactly where the runs cover all records.
-  pub covers-all : n ≡ records b → eqb (r .repeaters) n ≡ question2 b
+  pub covers-all : n ≡ records b → eqb (r .weights) n ≡ question2 b
   covers-all e = go (question2 b) refl
     where
-      go : (p : Bool) → p ≡ question2 b → eqb (r .repeaters) n ≡ p
-      go true f = eq-eqb (r .repeaters) n (all-covered (rw (sym e) at (kinds-known b f refl)))
-      go false f = ne-eqb (r .repeaters) n (λ d. true≢false (kinds-pass b (rw (d ∙ e) at (front-5 .kinds)) ∙ sym f))
+      go : (p : Bool) → p ≡ question2 b → eqb (r .weights) n ≡ p
+      go true f = eq-eqb (r .weights) n (all-covered (rw (sym e) at (kinds-known b f refl)))
+      go false f = ne-eqb (r .weights) n (λ d. true≢false (kinds-pass b (rw (d ∙ e) at (front-6 .kinds)) ∙ sym f))
 
   -- behind the widths there is none, so the widths of layer 0 are those among the first records
   layer0-run : Kinds b n → layer0In b (r .widths) ≡ countLayer0 b n
@@ -190,7 +193,7 @@ module _ {b : List ℕ} {n : ℕ} {r : RunEnds} (a : EndsOf b n r) where
         sizes = r .sizes - r .widths;
         stages = r .stages - r .sizes;
         segments = r .segments - r .stages;
-        repeaters = n - r .segments;
+        repeaters = r .repeaters - r .segments;
       })
       (countsTo b n)
   counts-runs h {v} u =
@@ -199,5 +202,9 @@ module _ {b : List ℕ} {n : ℕ} {r : RunEnds} (a : EndsOf b n r) where
       let f : r .sizes - r .widths ≡ count b 2 n = counts-run front-1 (a .sizes) h in
       let i : r .stages - r .sizes ≡ count b 3 n = counts-run front-2 (a .stages) h in
       let j : r .segments - r .stages ≡ count b 4 n = counts-run front-3 (a .segments) h in
-      let k : n - r .segments ≡ count b 5 n = omega (arith, all-covered h, counts-run front-4 (a .repeaters) h) in
+      let k : r .repeaters - r .segments ≡ count b 5 n = counts-run front-4 (a .repeaters) h in
       cc
+
+  -- the records behind the repeaters are the weight records
+  pub counts-weights : Kinds b n → n - r .repeaters ≡ count b 6 n
+  counts-weights h = omega (arith, all-covered h, counts-run front-5 (a .weights) h)

@@ -14,6 +14,7 @@ pub struct RunEnds {
     pub stages: usize,
     pub segments: usize,
     pub repeaters: usize,
+    pub weights: usize,
 }
 
 // The first of n records, from `from` on, that is not of a kind, or n: where the run of that kind ends.
@@ -41,12 +42,14 @@ pub fn find_ends(job: &[u8], n: usize) -> RunEnds
     let stages = run_end(job, n, sizes, 3);
     let segments = run_end(job, n, stages, 4);
     let repeaters = run_end(job, n, segments, 5);
+    let weights = run_end(job, n, repeaters, 6);
     RunEnds {
         widths: widths,
         sizes: sizes,
         stages: stages,
         segments: segments,
         repeaters: repeaters,
+        weights: weights,
     }
 }
 
@@ -65,8 +68,8 @@ fn count_layer0(job: &[u8], n: usize) -> usize
     count
 }
 
-// How many of the first n records are of each kind, and of the widths how many are of layer 0, where their kinds are 1 to 5 and never fall: each
-// kind is one run of records.
+// How many of the first n records are of each of the kinds 1 to 5, and of the widths how many are of layer 0, where their kinds are 1 to 6 and never
+// fall: each kind is one run of records.
 pub fn count(job: &[u8], n: usize, ends: RunEnds) -> Counts
     requires { ⌜ 16 * n ≤ length (now job) ⌝ }
     requires { ⌜ Kinds (now job) n ⌝ }
@@ -80,6 +83,6 @@ pub fn count(job: &[u8], n: usize, ends: RunEnds) -> Counts
         sizes: ends.sizes - ends.widths,
         stages: ends.stages - ends.sizes,
         segments: ends.segments - ends.stages,
-        repeaters: n - ends.segments,
+        repeaters: ends.repeaters - ends.segments,
     }
 }

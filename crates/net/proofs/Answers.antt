@@ -54,7 +54,7 @@ firstNo-no n qs b e = rw e
 
 jobQuestions-numbered : (job : List ℕ) → Numbered (jobQuestions job)
 unfolding jobQuestions Numbered
-jobQuestions-numbered job = (lit≤ tt, (lit≤ tt, (lit≤ tt, (lit≤ tt, (lit≤ tt, (lit≤ tt, (lit≤ tt, (lit≤ tt, (lit≤ tt, (lit≤ tt, (lit≤ tt, (lit≤ tt, (lit≤ tt, (lit≤ tt, tt))))))))))))))
+jobQuestions-numbered job = (lit≤ tt, (lit≤ tt, (lit≤ tt, (lit≤ tt, (lit≤ tt, (lit≤ tt, (lit≤ tt, (lit≤ tt, (lit≤ tt, (lit≤ tt, (lit≤ tt, (lit≤ tt, (lit≤ tt, (lit≤ tt, (lit≤ tt, (lit≤ tt, tt))))))))))))))))
 
 module _ (job : List ℕ) (ys : List Question) where
   -- a job that passes is asked the operation's questions

@@ -13,10 +13,10 @@ use Rattle.lattice.specs.Lists.{at, every}
 use Rattle.lattice.proofs.ListLaws.{is-true, at-every, every-or}
 use Rattle.lattice.proofs.Every.{every-fails}
 use Rattle.net.specs.declared.Counts.{Counts}
-use Rattle.net.specs.Job.{countIf, countsOf, widthAt, widthsOf, firstRow, sizeAt, stageAt, repeaterAt, segmentSink, sinkCapacitance, sinkWeight}
+use Rattle.net.specs.Job.{countIf, countsOf, weightRecords, widthAt, widthsOf, firstRow, sizeAt, stageAt, repeaterAt, segmentSink, sinkCapacitance, segmentWeight}
 use Rattle.net.specs.Net.{places, netOf}
 use Rattle.net.specs.Sizings.{lowerBound, upperBound, room}
-use Rattle.net.specs.Questions.{question1, question2, question24, question3, question4, zeros, question5, question6, question7, question8, question9, sinkOrZero, question10, Question, ask, firstNo, jobQuestions, refusal}
+use Rattle.net.specs.Questions.{question1, question2, question24, question3, question4, zeros, weightZeros, question5, question6, question7, question8, question9, sinkOrZero, question10, Question, ask, firstNo, jobQuestions, refusal}
 use Rattle.net.specs.Answers.{replyLength, sizeNumber, littleEndian}
 use Rattle.net.specs.Starred.{J1}
 use Rattle.net.proofs.Answers.{firstNo-yes, firstNo-no, job-passes, job-fails}
@@ -58,12 +58,13 @@ module _ (c : Counts) (b : List ℕ) where
       && (every (c .sizes) (λ k. zeros c b (sizeAt c k + 2) 2)
       && (every (c .stages) (λ s. zeros c b (stageAt c s + 4) 12)
       && (every (c .repeaters) (λ r. zeros c b (repeaterAt c r + 5) 11)
-      && every (c .segments) (sinkOrZero c b))))
+      && (every (weightRecords b) (weightZeros c b)
+      && every (c .segments) (sinkOrZero c b)))))
 
   -- it is question 5 and the clause
   clause : question5WithClause ≡ question5 c b && every (c .segments) (sinkOrZero c b)
   unfolding question5WithClause question5
-  clause = rw (and-assoc, and-assoc, and-assoc)
+  clause = rw (and-assoc, and-assoc, and-assoc, and-assoc)
 
 -- The questions of a job with the clause: that question in the place of question 5, the sixth.
 unfoldable pub questionsWithClause : List ℕ → List Question
@@ -74,7 +75,7 @@ pub record StraySink (c : Counts) (b : List ℕ) : Type 0 where
   pub segment : ℕ
   pub held : segment < c .segments
   pub sinkless : segmentSink c b segment ≡ 0
-  pub figure : (0 < sinkCapacitance c b segment) ⊎ (0 < sinkWeight c b segment)
+  pub figure : (0 < sinkCapacitance c b segment) ⊎ (0 < segmentWeight c b segment)
 
 -- A job that fails question 5 with the clause for this alone: it passes 1, 2, 24, 3 and 4, and its unnamed bytes are zero.
 pub record StraySinkAlone (job : List ℕ) : Type 0 where
@@ -108,9 +109,9 @@ module _ {c : Counts} {b : List ℕ} where
   unfolding sinkOrZero
   stray-fails y = go (y .figure)
     where
-      go : (0 < sinkCapacitance c b (y .segment)) ⊎ (0 < sinkWeight c b (y .segment)) → sinkOrZero c b (y .segment) ≡ false
+      go : (0 < sinkCapacitance c b (y .segment)) ⊎ (0 < segmentWeight c b (y .segment)) → sinkOrZero c b (y .segment) ≡ false
       go (inl l) = rw (y .sinkless, ne-eqb (sinkCapacitance c b (y .segment)) 0 (λ e. omega (arith, l, e)))
-      go (inr l) = rw (y .sinkless, ne-eqb (sinkWeight c b (y .segment)) 0 (λ e. omega (arith, l, e)), and-false)
+      go (inr l) = rw (y .sinkless, ne-eqb (segmentWeight c b (y .segment)) 0 (λ e. omega (arith, l, e)), and-false)
 
   clause-fails : StraySink c b → every (c .segments) (sinkOrZero c b) ≡ false
   clause-fails y = every-fails (c .segments) (sinkOrZero c b) (y .segment) (y .held) (stray-fails y)
@@ -122,9 +123,9 @@ module _ {c : Counts} {b : List ℕ} where
   -- where the clause fails there is such a segment
   stray-found : (i : ℕ) → i < c .segments → (T (sinkOrZero c b i) → ⊥) → StraySink c b
   unfolding sinkOrZero
-  stray-found i h n = go (ℕ-discrete (segmentSink c b i) 0) (ℕ-discrete (sinkCapacitance c b i) 0) (ℕ-discrete (sinkWeight c b i) 0)
+  stray-found i h n = go (ℕ-discrete (segmentSink c b i) 0) (ℕ-discrete (sinkCapacitance c b i) 0) (ℕ-discrete (segmentWeight c b i) 0)
     where
-      go : Dec (segmentSink c b i ≡ 0) → Dec (sinkCapacitance c b i ≡ 0) → Dec (sinkWeight c b i ≡ 0) → StraySink c b
+      go : Dec (segmentSink c b i ≡ 0) → Dec (sinkCapacitance c b i ≡ 0) → Dec (segmentWeight c b i ≡ 0) → StraySink c b
       go (no s) d e = absurd (n (rw (ne-eqb (segmentSink c b i) 0 s) tt))
       go (yes s) (no d) e = record { segment = i; held = h; sinkless = s; figure = inl (omega (arith, d)) }
       go (yes s) (yes d) (no e) = record { segment = i; held = h; sinkless = s; figure = inr (omega (arith, e)) }

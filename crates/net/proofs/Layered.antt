@@ -8,7 +8,8 @@ use Rattle.lattice.specs.Lists.{every, some, sum}
 use Rattle.net.specs.Job.{countIf, countsOf, widthsOf, firstRow}
 use Rattle.net.specs.Net.{netOf}
 use Rattle.net.specs.Delay.{branchesTo, climb, repeated, atRepeater, under, stageLoad, stagesDelay, segmentDelay, delay}
-use Rattle.net.specs.Questions.{question1, question2, question24, question3, question4, zeros, sinkOrZero, question5, question6, question7, question8, question9, question10, hasBranches, question11, question22, question23, firstNo, jobQuestions, refusal}
+use Rattle.net.specs.Weights.{lastAt, sinkWeight}
+use Rattle.net.specs.Questions.{question1, question2, question24, question3, question4, zeros, sinkOrZero, question5, question6, question7, question8, question9, question10, hasBranches, question11, question22, question23, question20, question21, firstNo, jobQuestions, refusal}
 use Rattle.net.specs.Answers.{littleEndian}
 use Rattle.net.specs.Starred.{J1, nineWidths}
 
@@ -28,7 +29,7 @@ on l = width 0 0 4 2 ++ width 0 1 2 3 ++ width 1 0 3 4 ++ width 1 1 1 7 ++ behin
 
 -- The delays at the two widths, of the segment on layer 0 and on layer 1.
 delays : map (λ l. delay (netOf (on l)) (0 ∷ 0 ∷ []) ∷ delay (netOf (on l)) (0 ∷ 1 ∷ []) ∷ []) (0 ∷ 1 ∷ []) ≡ (208 ∷ 206 ∷ []) ∷ (242 ∷ 277 ∷ []) ∷ []
-unfolding every some sum countIf countsOf firstRow branchesTo climb repeated atRepeater under stageLoad stagesDelay segmentDelay delay littleEndian
+unfolding every some sum countIf countsOf firstRow branchesTo climb repeated atRepeater under stageLoad stagesDelay segmentDelay lastAt sinkWeight delay littleEndian
 delays = refl
 
 -- The job itself; then, of question 24, the layer of the last width (at 50) and of the segment (at 111) above 1, layers that fall at the first
@@ -36,9 +37,9 @@ delays = refl
 abbrev first24 : List (List ℕ)
 first24 = on 1 ∷ set (on 1) 50 2 ∷ set (on 1) 111 2 ∷ set (on 1) 2 1 ∷ set J1 79 1 ∷ []
 
--- With a kind 6 too: 2 comes before it. With nine widths too: it comes before 3.
+-- With a kind 7 too: 2 comes before it. With nine widths too: it comes before 3.
 abbrev around24 : List (List ℕ)
-around24 = set (set (on 1) 0 6) 50 2 ∷ set nineWidths 191 2 ∷ []
+around24 = set (set (on 1) 0 7) 50 2 ∷ set nineWidths 191 2 ∷ []
 
 -- No width of layer 0; numbers of layer 1 that count on from layer 0 (at 33 and 49); equal resistances in layer 1 (at 52); a highest index (at 110)
 -- beyond layer 1 and within both.
@@ -46,5 +47,5 @@ abbrev others : List (List ℕ)
 others = (width 1 0 4 2 ++ behind 1) ∷ set (set (on 1) 33 2) 49 3 ∷ set (on 1) 52 3 ∷ set (on 1) 110 2 ∷ []
 
 numbers : map refusal (first24 ++ around24 ++ others) ≡ 0 ∷ 24 ∷ 24 ∷ 24 ∷ 24 ∷ 2 ∷ 24 ∷ 3 ∷ 4 ∷ 7 ∷ 10 ∷ []
-unfolding every some countIf countsOf widthsOf firstRow question1 question2 question24 question3 question4 zeros question5 question6 question7 question8 question9 sinkOrZero question10 hasBranches question11 question22 question23 firstNo jobQuestions refusal littleEndian
+unfolding every some countIf countsOf widthsOf firstRow question1 question2 question24 question3 question4 zeros question5 question6 question7 question8 question9 sinkOrZero question10 hasBranches question11 question22 question23 question20 question21 firstNo jobQuestions refusal littleEndian
 numbers = refl

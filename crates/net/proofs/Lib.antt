@@ -18,6 +18,7 @@ pub mod Reading
 pub mod Behind
 pub mod Held
 pub mod OnePosition
+pub mod SinkWeights
 pub mod Questions
 pub mod InOrder
 pub mod Answers
@@ -26,7 +27,9 @@ pub mod Demands
 pub mod Promises
 pub mod Unnamed
 pub mod Former
+pub mod Unweighted
 pub mod OneLayer
 pub mod Starred
 pub mod Layered
 pub mod Repeated
+pub mod Weighed

@@ -1,5 +1,6 @@
--- The questions and the net as they are without layers, each named as the former one, and each with what repeaters add: a job whose layer bytes are
--- all 0 gets the number that it gets without layers, and has that net. None of the former ones is a definition of the library.
+-- The questions and the net as they are without layers and without weight records, each named as the former one, and each with what repeaters add: a
+-- job without weight records whose layer bytes are all 0 gets the number that it gets without layers, and has that net. None of the former ones is a
+-- definition of the library.
 use mathlib.Core.Path.{_≡_, _∙_, refl, sym, ap, ap₂, fun-ext}
 use mathlib.Core.Bool.{Bool, true, false, not, _&&_, _||_, and-true}
 use mathlib.Core.List.{List, [], _∷_, _++_}
@@ -14,13 +15,14 @@ use Rattle.lattice.specs.Lists.{every}
 use Rattle.lattice.proofs.ListLaws.{is-true, and-T, every-at, at-every}
 use Rattle.lattice.proofs.Every.{every-same}
 use Rattle.net.specs.declared.Counts.{Counts}
-use Rattle.net.specs.Job.{byte, records, kind, countIf, countsOf, ofKind, widthAt, widthLayer, widthsOf, firstRow, sizeAt, stageAt, segmentAt, repeaterAt, rowResistance, rowCapacitance, sizeResistance, sizeGate, sizeOutput, stageLowest, stageHighest, segmentParent, segmentSink, segmentLength, sinkCapacitance, sinkWeight, segmentLowest, segmentHighest, segmentLayer, repeaterSegment, repeaterLowest, repeaterHighest}
+use Rattle.net.specs.Job.{byte, records, kind, countIf, countsOf, weightRecords, ofKind, widthAt, widthLayer, widthsOf, firstRow, sizeAt, stageAt, segmentAt, repeaterAt, rowResistance, rowCapacitance, sizeResistance, sizeGate, sizeOutput, stageLowest, stageHighest, segmentParent, segmentSink, segmentLength, sinkCapacitance, segmentWeight, segmentLowest, segmentHighest, segmentLayer, repeaterSegment, repeaterLowest, repeaterHighest}
 use Rattle.net.specs.Net.{Net, netOf}
-use Rattle.net.specs.Questions.{inRange, question1, question2, question24, question3, question4, zeros, question5, question6, question7, question8, question9, sinkOrZero, question10, question11, question22, question23, Question, ask, firstNo, jobQuestions, refusal}
+use Rattle.net.specs.Questions.{inRange, question1, question2, question24, question3, zeros, question6, question7, question8, question9, sinkOrZero, question10, question11, question22, question23, Question, ask, firstNo, jobQuestions, refusal}
 use Rattle.net.proofs.Records.{never-falls, counts-each, counts-alike, counts-grow, counts-fill, layer-0, layer-1}
 use Rattle.net.proofs.Questions.{in-range, Passed, passed}
 use Rattle.net.proofs.Answers.{job-fails}
 use Rattle.net.proofs.Unnamed.{unnamed-only}
+use Rattle.net.proofs.Unweighted.{unweightedQuestion2, unweightedQuestion4, unweightedQuestion5, unweightedNet, unweightedQuestions, net-unweighted, asked-unweighted}
 
 -- The former 3. Is each kind's count in its range?
 unfoldable pub formerQuestion3 : Counts → Bool
@@ -60,7 +62,7 @@ module _ (c : Counts) (b : List ℕ) where
       (λ i. inRange 0 1 (segmentSink c b i)
       && (inRange 1 1000 (segmentLength c b i)
       && (inRange 0 100000 (sinkCapacitance c b i)
-      && (inRange 0 255 (sinkWeight c b i)
+      && (inRange 0 255 (segmentWeight c b i)
       && (sinkOrZero c b i && (leb (segmentLowest c b i) (segmentHighest c b i) && ltb (segmentHighest c b i) (c .widths)))))))
 
   -- The former net: a segment's resistance is its row's times length, its capacitance likewise.
@@ -79,7 +81,7 @@ module _ (c : Counts) (b : List ℕ) where
         wireCapacitance = λ i k. rowCapacitance b k * segmentLength c b i;
         parent = segmentParent c b;
         sink = sinkCapacitance c b;
-        weight = sinkWeight c b;
+        weight = segmentWeight c b;
         site = repeaterSegment c b;
       }
 
@@ -88,7 +90,7 @@ unfoldable pub formerQuestions : List ℕ → List Question
 formerQuestions b =
     let c : Counts = countsOf b in
     ask 1 (question1 b)
-    ∷ ask 2 (question2 b)
+    ∷ ask 2 (unweightedQuestion2 b)
     ∷ ask 3 (formerQuestion3 c)
     ∷ ask 4 (formerQuestion4 c b)
     ∷ ask 5 (formerQuestion5 c b)
@@ -133,8 +135,8 @@ module _ {c : Counts} {b : List ℕ} (z : LayersZero c b) (one : c .layer0 ≡ c
   unfolding every
   both-layers f n e = rw e (and-true (every (n 0) (f 0)))
 
-  same-4 : question4 c b ≡ formerQuestion4 c b
-  unfolding question4 formerQuestion4
+  same-4 : unweightedQuestion4 c b ≡ formerQuestion4 c b
+  unfolding unweightedQuestion4 formerQuestion4
   same-4 =
       rw (both-layers (λ l k. eqb (byte b (widthAt (firstRow c l + k) + 1)) k) (widthsOf c) no-rows, all-rows .0, all-rows .1)
       (ap₂ _&&_ (every-same (c .widths) _ _ (λ k h. rw (zero-add k))) refl)
@@ -163,8 +165,8 @@ module _ {c : Counts} {b : List ℕ} (z : LayersZero c b) (one : c .layer0 ≡ c
   unfolding zeros every
   last-byte r e = let f : r + 15 + 0 ≡ r + 15 = omega arith in rw (f, e)
 
-  same-5 : question5 c b ≡ formerQuestion5 c b
-  unfolding question5 formerQuestion5
+  same-5 : unweightedQuestion5 c b ≡ formerQuestion5 c b
+  unfolding unweightedQuestion5 formerQuestion5
   same-5 =
       let w : every (c .widths) (λ k. zeros c b (widthAt k + 3) 1 && zeros c b (widthAt k + 12) 4) ≡ every (c .widths) (λ k. zeros c b (widthAt k + 2) 2 && zeros c b (widthAt k + 12) 4) =
       every-same (c .widths) _ _ (λ k h. ap₂ _&&_ (second-byte (widthAt k) (z .widths k h)) refl) in
@@ -177,15 +179,15 @@ module _ {c : Counts} {b : List ℕ} (z : LayersZero c b) (one : c .layer0 ≡ c
   same-10 = every-same (c .segments) _ _ (λ i h. rw (z .segments i h, all-rows .0))
 
 -- Where the kinds never fall, a record of kind 1 stands among the widths, so that its layer byte is 0.
-module _ (b : List ℕ) (z : LayersZero (countsOf b) b) (two : T (question2 b)) where
+module _ (b : List ℕ) (z : LayersZero (countsOf b) b) (two : T (unweightedQuestion2 b)) where
   known : (r : ℕ) → r < records b → 1 ≤ kind b r
-  unfolding question2
+  unfolding unweightedQuestion2
   known r h =
       let a = and-T (every (records b) (λ k. inRange 1 5 (kind b k))) _ two .0 in
       in-range 1 5 (kind b r) (every-at (records b) (λ k. inRange 1 5 (kind b k)) a r h) .0
 
   in-order : (j k : ℕ) → j ≤ k → k < records b → kind b j ≤ kind b k
-  unfolding question2
+  unfolding unweightedQuestion2
   in-order =
       let a = and-T (every (records b) (λ k. inRange 1 5 (kind b k))) (every (records b - 1) (λ k. leb (kind b k) (kind b (suc k)))) two .1 in
       never-falls (kind b) (records b) (λ k h. leb→le _ _ (every-at (records b - 1) (λ k. leb (kind b k) (kind b (suc k))) a k h))
@@ -213,9 +215,9 @@ past-end [] at h = refl
 past-end (x ∷ b) zero h = absurd (omega (arith, h))
 past-end (x ∷ b) (suc at) h = past-end b at (omega (arith, h))
 
--- Where a job passes its questions, the records that are counted fill it and the unnamed bytes of its repeaters are zero, so that the layer byte of a
--- segment that there is not is 0 too.
-module _ (b : List ℕ) (z : LayersZero (countsOf b) b) (a : Passed (countsOf b) b) where
+-- Where a job without weight records passes its questions, the records that are counted fill it and the unnamed bytes of its repeaters are zero, so
+-- that the layer byte of a segment that there is not is 0 too.
+module _ (b : List ℕ) (none : weightRecords b ≡ 0) (z : LayersZero (countsOf b) b) (a : Passed (countsOf b) b) where
   every-layer : (i : ℕ) → segmentLayer (countsOf b) b i ≡ 0
   every-layer i = go (decLe (suc i) (c .segments)) (decLe (suc i) (c .segments + c .repeaters))
     where
@@ -228,14 +230,14 @@ module _ (b : List ℕ) (z : LayersZero (countsOf b) b) (a : Passed (countsOf b)
           let r = i - c .segments in
           let e : repeaterAt c r + 15 ≡ segmentAt c i + 15 = omega arith in
           rw e at (unnamed-only c b .0 (a .five) .repeaters r (omega arith) 15 (lit≤ tt) (lit< tt))
-      go (no h) (no k) = past-end b (segmentAt c i + 15) (omega (arith, h, counts-fill b (is-true (question1 b) (a .one)) (is-true (question2 b) (a .two))))
+      go (no h) (no k) = past-end b (segmentAt c i + 15) (omega (arith, k, none, counts-fill b (is-true (question1 b) (a .one)) (is-true (question2 b) (a .two))))
 
   -- a row of a segment's layer is that of the one table
   same-row : (f : ℕ → ℕ) (i k : ℕ) → f (firstRow (countsOf b) (segmentLayer (countsOf b) b i) + k) ≡ f k
   same-row f i k = rw (every-layer i, layer-0 (countsOf b) .1, zero-add k)
 
   -- The net is the former one.
-  pub net-as-before : netOf b ≡ formerNet (countsOf b) b
+  pub net-as-before : unweightedNet (countsOf b) b ≡ formerNet (countsOf b) b
   net-as-before =
       ap₂ with-wires
       (fun-ext (λ i. fun-ext (λ k. ap (λ (r : ℕ). r * segmentLength (countsOf b) b i) (same-row (rowResistance b) i k))))
@@ -285,21 +287,24 @@ fromThree b three four five seven ten =
     ∷ ask 23 (question23 c b)
     ∷ []
 
--- A job whose layer bytes are all 0: an operation asks the job's questions and then its own of the net, whichever these are, and gets the number
--- that it gets with the former questions and the former net.
-module _ (b : List ℕ) (z : LayersZero (countsOf b) b) where
-  asked-as-before : (own : List Question) → firstNo (jobQuestions b ++ own) ≡ firstNo (formerQuestions b ++ own)
-  unfolding jobQuestions formerQuestions
+-- A job without weight records whose layer bytes are all 0: an operation asks the job's questions and then its own of the net, whichever these are,
+-- and gets the number that it gets with the former questions and the former net.
+module _ (b : List ℕ) (none : weightRecords b ≡ 0) (z : LayersZero (countsOf b) b) where
+  asked-as-before : (own : List Question) → firstNo (unweightedQuestions b ++ own) ≡ firstNo (formerQuestions b ++ own)
+  unfolding unweightedQuestions formerQuestions
   asked-as-before own =
       let c : Counts = countsOf b in
-      same-first (question1 b) (question2 b) (question24 c b)
-      (fromThree b (question3 c) (question4 c b) (question5 c b) (question7 c b) (question10 c b) ++ own)
+      same-first (question1 b) (unweightedQuestion2 b) (question24 c b)
+      (fromThree b (question3 c) (unweightedQuestion4 c b) (unweightedQuestion5 c b) (question7 c b) (question10 c b) ++ own)
       (fromThree b (formerQuestion3 c) (formerQuestion4 c b) (formerQuestion5 c b) (formerQuestion7 c b) (formerQuestion10 c b) ++ own)
       (λ p q. let e = one-layer b z q in (same-24 z e, rw (same-3 z e, same-4 z e, same-5 z e, same-7 z e, same-10 z e)))
 
   pub numbers-as-before : (own : Net → List Question) → firstNo (jobQuestions b ++ own (netOf b)) ≡ firstNo (formerQuestions b ++ own (formerNet (countsOf b) b))
-  numbers-as-before own = go (ℕ-discrete (refusal b) 0) ∙ asked-as-before (own (formerNet (countsOf b) b))
+  numbers-as-before own = go (ℕ-discrete (refusal b) 0) ∙ asked-unweighted b none (own former) ∙ asked-as-before (own former)
     where
-      go : Dec (refusal b ≡ 0) → firstNo (jobQuestions b ++ own (netOf b)) ≡ firstNo (jobQuestions b ++ own (formerNet (countsOf b) b))
-      go (yes e) = ap (λ (net : Net). firstNo (jobQuestions b ++ own net)) (net-as-before b z (passed b e))
-      go (no n) = job-fails b (own (netOf b)) n ∙ sym (job-fails b (own (formerNet (countsOf b) b)) n)
+      former : Net
+      former = formerNet (countsOf b) b
+
+      go : Dec (refusal b ≡ 0) → firstNo (jobQuestions b ++ own (netOf b)) ≡ firstNo (jobQuestions b ++ own former)
+      go (yes e) = ap (λ (net : Net). firstNo (jobQuestions b ++ own net)) (net-unweighted b none ∙ net-as-before b none z (passed b e))
+      go (no n) = job-fails b (own (netOf b)) n ∙ sym (job-fails b (own former) n)

@@ -222,7 +222,7 @@ pub refusal-apart : (job : List ℕ) (n : ℕ) → 12 ≤ n → n ≤ 19 → ref
 unfolding refusal jobQuestions Apart
 refusal-apart job n l h =
     firstNo-apart n (jobQuestions job) l h
-    (tt, (tt, (tt, (tt, (tt, (tt, (tt, (tt, (tt, (tt, (tt, (tt, (tt, (tt, tt))))))))))))))
+    (tt, (tt, (tt, (tt, (tt, (tt, (tt, (tt, (tt, (tt, (tt, (tt, (tt, (tt, (tt, (tt, tt))))))))))))))))
 
 -- The questions of size itself, 12 and 14.
 module _ (job : List ℕ) (n : ℕ) where

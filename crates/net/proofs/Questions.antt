@@ -1,4 +1,4 @@
--- What passed questions give: a job that passes questions 1 to 11 and 22 to 24 has the facts of `Checked`, so its net is ordered and within the
+-- What passed questions give: a job that passes questions 1 to 11 and 20 to 24 has the facts of `Checked`, so its net is ordered and within the
 -- limits, its allowed sizings are closed and not empty, its delay is submodular on them and below 2 ^ 63, its load figure is what its drivers
 -- charge, and each of its records is counted in its kind.
 use mathlib.Core.Path.{_≡_, _∙_, refl, sym}
@@ -16,18 +16,19 @@ use Rattle.lattice.proofs.ListLaws.{is-true, and-T, T-and, every-at, some-at, l
 use Rattle.lattice.proofs.Boxes.{inBox-iff}
 use Rattle.lattice.proofs.Sums.{rises-steps, falls-steps}
 use Rattle.net.specs.declared.Counts.{Counts}
-use Rattle.net.specs.Job.{countsOf, ofKind, widthsOf, firstRow, rowResistance, rowCapacitance, sizeResistance, sizeGate, sizeOutput, stageLowest, stageHighest, segmentParent, segmentSink, segmentLength, sinkCapacitance, sinkWeight, segmentLowest, segmentHighest, segmentLayer, repeaterSegment, repeaterLowest, repeaterHighest}
+use Rattle.net.specs.Job.{countsOf, weightRecords, ofKind, widthsOf, firstRow, rowResistance, rowCapacitance, sizeResistance, sizeGate, sizeOutput, stageLowest, stageHighest, segmentParent, segmentSink, segmentLength, sinkCapacitance, segmentWeight, segmentLowest, segmentHighest, segmentLayer, repeaterSegment, repeaterLowest, repeaterHighest}
 use Rattle.net.specs.Net.{Net, places, netBy, netOf}
 use Rattle.net.specs.Delay.{delay, loadFigure}
 use Rattle.net.specs.Segments.{stageCharge, repeaterCharge}
 use Rattle.net.specs.Sizings.{allowed}
-use Rattle.net.specs.Questions.{inRange, question1, question2, question24, question3, question4, sinkOrZero, question5, question6, question7, question8, question9, question10, hasBranches, question11, question22, question23, Question, ask, firstNo, jobQuestions, refusal}
+use Rattle.net.specs.Questions.{inRange, question1, question2, question24, question3, question4, sinkOrZero, question5, question6, question7, question8, question9, question10, hasBranches, question11, question22, question23, question20, question21, Question, ask, firstNo, jobQuestions, refusal}
 use Rattle.net.specs.Checked.{Held, Checked, InRanges, Ordered, Limited}
 use Rattle.net.proofs.Dominance.{delay-submodular}
 use Rattle.net.proofs.Bound.{delay-fits}
 use Rattle.net.proofs.Charged.{load-charged}
 use Rattle.net.proofs.Places.{is-stage, is-segment, is-repeater, kinds}
 use Rattle.net.proofs.Order.{rising-steps}
+use Rattle.net.proofs.SinkWeights.{weight-small}
 use Rattle.net.proofs.Records.{counts-held, layer-1, row-held, counts-fill}
 
 -- where no question fails, the first passes and so do the rest
@@ -36,7 +37,7 @@ unfolding firstNo
 firstNo-zero n true qs e = (tt, e)
 firstNo-zero n false qs e = absurd (omega arith)
 
--- The fourteen questions, all passed.
+-- The sixteen questions, all passed.
 pub record Passed (c : Counts) (b : List ℕ) : Type 0 where
   pub one : T (question1 b)
   pub two : T (question2 b)
@@ -52,6 +53,8 @@ pub record Passed (c : Counts) (b : List ℕ) : Type 0 where
   pub eleven : T (question11 c b)
   pub sited : T (question22 c b)
   pub repeated : T (question23 c b)
+  pub weighed : T (question20 c b)
+  pub fractions : T (question21 c b)
 
 pub passed : (b : List ℕ) → refusal b ≡ 0 → Passed (countsOf b) b
 unfolding refusal jobQuestions
@@ -71,6 +74,8 @@ passed b e =
     let a11 = firstNo-zero 10 (question11 c b) _ (a10 .1) in
     let a22 = firstNo-zero 21 (question22 c b) _ (a11 .1) in
     let a23 = firstNo-zero 22 (question23 c b) _ (a22 .1) in
+    let a20 = firstNo-zero 19 (question20 c b) _ (a23 .1) in
+    let a21 = firstNo-zero 20 (question21 c b) _ (a20 .1) in
     record {
       one = a1 .0;
       two = a2 .0;
@@ -86,6 +91,8 @@ passed b e =
       eleven = a11 .0;
       sited = a22 .0;
       repeated = a23 .0;
+      weighed = a20 .0;
+      fractions = a21 .0;
     }
 
 pub in-range : (l h v : ℕ) → T (inRange l h v) → (l ≤ v) × (v ≤ h)
@@ -175,14 +182,14 @@ module _ (c : Counts) (b : List ℕ) (a : Passed c b) where
 
   -- the fields of a segment
   segment-fields : (i : ℕ) → i < c .segments
-      → (segmentSink c b i ≤ 1) × (segmentLength c b i ≤ 1000) × (sinkCapacitance c b i ≤ 100000) × (sinkWeight c b i ≤ 255)
+      → (segmentSink c b i ≤ 1) × (segmentLength c b i ≤ 1000) × (sinkCapacitance c b i ≤ 100000) × (segmentWeight c b i ≤ 255)
       × (segmentLowest c b i ≤ segmentHighest c b i) × (segmentHighest c b i < widthsOf c (segmentLayer c b i))
   unfolding question10
   segment-fields i h =
       let t1 = and-T (inRange 0 1 (segmentSink c b i)) _ (every-at (c .segments) _ (a .ten) i h) in
       let t2 = and-T (inRange 1 1000 (segmentLength c b i)) _ (t1 .1) in
       let t3 = and-T (inRange 0 100000 (sinkCapacitance c b i)) _ (t2 .1) in
-      let t4 = and-T (inRange 0 255 (sinkWeight c b i)) _ (t3 .1) in
+      let t4 = and-T (inRange 0 255 (segmentWeight c b i)) _ (t3 .1) in
       let t5 = and-T (sinkOrZero c b i) _ (t4 .1) in
       let t6 = and-T (leb (segmentLowest c b i) (segmentHighest c b i)) (ltb (segmentHighest c b i) (widthsOf c (segmentLayer c b i))) (t5 .1) in (
         in-range 0 1 _ (t1 .0) .1,
@@ -217,6 +224,9 @@ module _ (c : Counts) (b : List ℕ) (a : Passed c b) where
   repeater-range r h =
       let v = and-T (leb (repeaterLowest c b r) (repeaterHighest c b r)) (ltb (repeaterHighest c b r) (c .sizes)) (every-at (c .repeaters) _ (a .repeated) r h) in
       (leb→le _ _ (v .0), ltb→lt _ _ (v .1))
+
+  weights : (i : ℕ) → i < c .segments → netBy c b .weight i ≤ 255
+  weights i h = weight-small c b i (segment-fields i h .3) (a .weighed)
 
 -- A place's range is a stage's, a segment's or a repeater's.
 module _ (c : Counts) (b : List ℕ) where
@@ -260,7 +270,7 @@ checked-by c b e h a =
       parents = parents c b a;
       lengths = λ i l. segment-fields c b a i l .1;
       sinks = λ i l. segment-fields c b a i l .2;
-      weights = λ i l. segment-fields c b a i l .3;
+      weights = weights c b a;
       sites = λ r l. ltb→lt _ _ (sited c b a r l .0);
       branched = branched c b a;
       rising = rising c b a;
@@ -378,7 +388,7 @@ module _ {c : Counts} {b : List ℕ} (k : Checked c b) where
   pub checked-charged : (x : List ℕ) → sum (c .stages) (stageCharge (netBy c b) x) + sum (c .repeaters) (repeaterCharge (netBy c b) x) ≡ loadFigure (netBy c b) x
   checked-charged x = load-charged (netBy c b) x (ordered k) (k .someStage)
 
--- The same of every job that passes questions 1 to 11 and 22 to 24.
+-- The same of every job that passes questions 1 to 11 and 20 to 24.
 module _ (b : List ℕ) (e : refusal b ≡ 0) where
   pub job-allowed : Allowed (allowed (netOf b)) (lowestSizing (netOf b))
   job-allowed = checked-allowed (checked b e)
@@ -389,7 +399,7 @@ module _ (b : List ℕ) (e : refusal b ≡ 0) where
   pub job-fits : (x : List ℕ) → Allowed (allowed (netOf b)) x → delay (netOf b) x < 2 ^ 63
   job-fits = checked-fits (checked b e)
 
-  pub job-filled : 16 * (countsOf b .widths + countsOf b .sizes + countsOf b .stages + countsOf b .segments + countsOf b .repeaters) ≡ length b
+  pub job-filled : 16 * (countsOf b .widths + countsOf b .sizes + countsOf b .stages + countsOf b .segments + countsOf b .repeaters + weightRecords b) ≡ length b
   job-filled = let a = passed b e in counts-fill b (is-true _ (a .one)) (is-true _ (a .two))
 
   pub job-charged : (x : List ℕ) → sum (netOf b .stages) (stageCharge (netOf b) x) + sum (netOf b .repeaters) (repeaterCharge (netOf b) x) ≡ loadFigure (netOf b) x

@@ -12,7 +12,7 @@ use lib.Dec.{leb, ltb, eqb, lit≤, eqb→eq}
 use lib.ListN.{length}
 use Rattle.lattice.specs.Lists.{every}
 use Rattle.lattice.proofs.ListLaws.{is-true, and-T, every-at}
-use Rattle.net.specs.Job.{records, kind, widthLayer, countIf, count, countLayer0, countsOf, widthsOf, firstRow}
+use Rattle.net.specs.Job.{records, kind, widthLayer, countIf, count, countLayer0, countsOf, weightRecords, widthsOf, firstRow}
 use Rattle.net.specs.declared.Counts.{Counts}
 use Rattle.net.specs.Questions.{inRange, question1, question2}
 use Rattle.net.specs.Checked.{Held}
@@ -24,24 +24,26 @@ records-fill b e =
     let a = and-T (ltb 0 (length b)) (eqb (_%_ (length b) 16) 0) (rw e tt) in
     omega (arith, eqb→eq (_%_ (length b) 16) 0 (a .1), div-add-mod' (length b) 16)
 
--- A record is of one of the five kinds, or of none.
-one-kind : (k : ℕ) → cond (eqb k 1) 1 0 + cond (eqb k 2) 1 0 + cond (eqb k 3) 1 0 + cond (eqb k 4) 1 0 + cond (eqb k 5) 1 0 ≡ cond (inRange 1 5 k) 1 0
+-- A record is of one of the six kinds, or of none.
+one-kind : (k : ℕ) → cond (eqb k 1) 1 0 + cond (eqb k 2) 1 0 + cond (eqb k 3) 1 0 + cond (eqb k 4) 1 0 + cond (eqb k 5) 1 0 + cond (eqb k 6) 1 0 ≡ cond (inRange 1 6 k) 1 0
 one-kind zero = refl
 one-kind (suc zero) = refl
 one-kind (suc (suc zero)) = refl
 one-kind (suc (suc (suc zero))) = refl
 one-kind (suc (suc (suc (suc zero)))) = refl
 one-kind (suc (suc (suc (suc (suc zero))))) = refl
-one-kind (suc (suc (suc (suc (suc (suc k)))))) =
-    let n : ℕ = suc (suc (suc (suc (suc (suc k))))) in
+one-kind (suc (suc (suc (suc (suc (suc zero)))))) = refl
+one-kind (suc (suc (suc (suc (suc (suc (suc k))))))) =
+    let n : ℕ = suc (suc (suc (suc (suc (suc (suc k)))))) in
     rw (
       ne-eqb n 1 (λ e. omega arith),
       ne-eqb n 2 (λ e. omega arith),
       ne-eqb n 3 (λ e. omega arith),
       ne-eqb n 4 (λ e. omega arith),
       ne-eqb n 5 (λ e. omega arith),
+      ne-eqb n 6 (λ e. omega arith),
       le-leb 1 n (omega arith),
-      lt-leb n 5 (omega arith),
+      lt-leb n 6 (omega arith),
     )
     refl
 
@@ -49,10 +51,10 @@ at-most-one : (t : Bool) → cond t 1 0 ≤ 1
 at-most-one true = lit≤ tt
 at-most-one false = lit≤ tt
 
-pub counts-small : (b : List ℕ) (n : ℕ) → count b 1 n + count b 2 n + count b 3 n + count b 4 n + count b 5 n ≤ n
+pub counts-small : (b : List ℕ) (n : ℕ) → count b 1 n + count b 2 n + count b 3 n + count b 4 n + count b 5 n + count b 6 n ≤ n
 unfolding countIf
 counts-small b zero = lit≤ tt
-counts-small b (suc n) = omega (arith, counts-small b n, one-kind (kind b n), at-most-one (inRange 1 5 (kind b n)))
+counts-small b (suc n) = omega (arith, counts-small b n, one-kind (kind b n), at-most-one (inRange 1 6 (kind b n)))
 
 -- A number that no step lets fall, up to the place n - 1, is nowhere above a later one.
 pub never-falls : (f : ℕ → ℕ) (n : ℕ) → ((k : ℕ) → k < n - 1 → f k ≤ f (suc k)) → (j k : ℕ) → j ≤ k → k < n → f j ≤ f k
@@ -115,6 +117,11 @@ counts-held b =
       layers = layer0-small b (records b);
     }
 
+-- The weight records are there too.
+pub weights-held : (b : List ℕ) → 16 * (countsOf b .widths + countsOf b .sizes + countsOf b .stages + countsOf b .segments + countsOf b .repeaters + weightRecords b) ≤ length b
+unfolding countsOf
+weights-held b = omega (arith, counts-small b (records b), div-add-mod' (length b) 16)
+
 -- The tables of the two layers.
 pub layer-0 : (c : Counts) → (widthsOf c 0 ≡ c .layer0) × (firstRow c 0 ≡ 0)
 unfolding widthsOf firstRow
@@ -129,19 +136,19 @@ pub row-held : {c : Counts} {b : List ℕ} → Held c b → (l k : ℕ) → k < 
 row-held {c} h zero k n = omega (arith, h .layers, layer-0 c .0, layer-0 c .1)
 row-held {c} h (suc l) k n = let e = layer-1 c (suc l) (λ z. omega (arith, z)) in omega (arith, e .0, e .1)
 
--- Where every record is of one of the five kinds, each is counted.
-counts-all : (b : List ℕ) (n : ℕ) → ((r : ℕ) → r < n → inRange 1 5 (kind b r) ≡ true) → count b 1 n + count b 2 n + count b 3 n + count b 4 n + count b 5 n ≡ n
+-- Where every record is of one of the six kinds, each is counted.
+counts-all : (b : List ℕ) (n : ℕ) → ((r : ℕ) → r < n → inRange 1 6 (kind b r) ≡ true) → count b 1 n + count b 2 n + count b 3 n + count b 4 n + count b 5 n + count b 6 n ≡ n
 unfolding countIf
 counts-all b zero f = refl
 counts-all b (suc n) f =
-    let k : _≡_ {A = ℕ} (cond (inRange 1 5 (kind b n)) 1 0) 1 = rw (f n (omega arith)) refl in
+    let k : _≡_ {A = ℕ} (cond (inRange 1 6 (kind b n)) 1 0) 1 = rw (f n (omega arith)) refl in
     omega (arith, counts-all b n (λ r h. f r (omega arith)), one-kind (kind b n), k)
 
 -- Wherever questions 1 and 2 pass, sixteen times the counts by kind, added up, is the length: no record is left out.
 pub counts-fill : (b : List ℕ) → question1 b ≡ true → question2 b ≡ true
-    → 16 * (countsOf b .widths + countsOf b .sizes + countsOf b .stages + countsOf b .segments + countsOf b .repeaters) ≡ length b
+    → 16 * (countsOf b .widths + countsOf b .sizes + countsOf b .stages + countsOf b .segments + countsOf b .repeaters + weightRecords b) ≡ length b
 unfolding question2 countsOf
 counts-fill b e f =
-    let a = and-T (every (records b) (λ r. inRange 1 5 (kind b r))) (every (records b - 1) (λ r. leb (kind b r) (kind b (suc r)))) (rw f tt) in
-    let n = counts-all b (records b) (λ r h. is-true _ (every-at (records b) (λ s. inRange 1 5 (kind b s)) (a .0) r h)) in
+    let a = and-T (every (records b) (λ r. inRange 1 6 (kind b r))) (every (records b - 1) (λ r. leb (kind b r) (kind b (suc r)))) (rw f tt) in
+    let n = counts-all b (records b) (λ r h. is-true _ (every-at (records b) (λ s. inRange 1 6 (kind b s)) (a .0) r h)) in
     omega (arith, n, records-fill b e)

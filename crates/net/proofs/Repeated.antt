@@ -8,20 +8,21 @@ use Rattle.lattice.specs.Lists.{every, some, sum}
 use Rattle.net.specs.Job.{countIf, countsOf, widthsOf, firstRow}
 use Rattle.net.specs.Net.{netOf}
 use Rattle.net.specs.Delay.{branchesTo, climb, repeated, atRepeater, under, stageLoad, stagesDelay, segmentDelay, delay, gatesLoad, outputsLoad, repeatersLoad, loadFigure}
-use Rattle.net.specs.Questions.{question1, question2, question24, question3, question4, zeros, sinkOrZero, question5, question6, question7, question8, question9, question10, hasBranches, question11, question22, question23, firstNo, jobQuestions, refusal}
+use Rattle.net.specs.Weights.{lastAt, sinkWeight}
+use Rattle.net.specs.Questions.{question1, question2, question24, question3, question4, zeros, weightZeros, sinkOrZero, question5, question6, question7, question8, question9, question10, hasBranches, question11, question22, question23, question20, question21, firstNo, jobQuestions, refusal}
 use Rattle.net.specs.Answers.{littleEndian}
 
-abbrev size : (number resistance gate output : ℕ) → List ℕ
+abbrev pub size : (number resistance gate output : ℕ) → List ℕ
 size n r g o = 2 ∷ n ∷ 0 ∷ 0 ∷ littleEndian 4 r ++ littleEndian 4 g ++ littleEndian 4 o
 
-abbrev segment : (number parent sink weight : ℕ) → List ℕ
+abbrev pub segment : (number parent sink weight : ℕ) → List ℕ
 segment n p s w = 4 ∷ n ∷ p ∷ 1 ∷ littleEndian 4 1 ++ littleEndian 4 s ++ w ∷ 0 ∷ 0 ∷ 0 ∷ []
 
-abbrev repeater : (number segment lowest highest : ℕ) → List ℕ
+abbrev pub repeater : (number segment lowest highest : ℕ) → List ℕ
 repeater n i l h = 5 ∷ n ∷ i ∷ l ∷ h ∷ replicate 11 0
 
 -- Behind segment 0 hangs segment 1. The parent byte of segment 2 is given: 0 for the source, 2 for segment 1.
-abbrev before : (parent : ℕ) → List ℕ
+abbrev pub before : (parent : ℕ) → List ℕ
 before p =
     (1 ∷ 0 ∷ 0 ∷ 0 ∷ littleEndian 4 4 ++ littleEndian 4 2 ++ replicate 4 0)
     ++ size 0 10 3 1
@@ -36,7 +37,7 @@ abbrev job : List ℕ
 job = before 0 ++ repeater 0 0 0 1
 
 figures : delay (netOf job) (0 ∷ 0 ∷ 0 ∷ 0 ∷ 1 ∷ []) ∷ loadFigure (netOf job) (0 ∷ 0 ∷ 0 ∷ 0 ∷ 1 ∷ []) ∷ [] ≡ 2184 ∷ 28 ∷ []
-unfolding every some sum countIf countsOf firstRow branchesTo climb repeated atRepeater under stageLoad stagesDelay segmentDelay delay gatesLoad outputsLoad repeatersLoad loadFigure littleEndian
+unfolding every some sum countIf countsOf firstRow branchesTo climb repeated atRepeater under stageLoad stagesDelay segmentDelay lastAt sinkWeight delay gatesLoad outputsLoad repeatersLoad loadFigure littleEndian
 figures = refl
 
 -- The job itself, and a chain of three segments with a repeater behind the first and the second.
@@ -63,10 +64,10 @@ around22 =
     ∷ set (set (set (before 0 ++ repeater 0 3 0 1) 99 0) 104 0) 108 0
     ∷ []
 
--- A kind 6, nine repeaters, a number that does not count from 0, and the first and the last unnamed byte.
+-- A kind 7, nine repeaters, a number that does not count from 0, and the first and the last unnamed byte.
 abbrev others : List (List ℕ)
 others =
-    set job 112 6
+    set job 112 7
     ∷ (job ++ repeater 1 0 0 1 ++ repeater 2 0 0 1 ++ repeater 3 0 0 1 ++ repeater 4 0 0 1 ++ repeater 5 0 0 1 ++ repeater 6 0 0 1 ++ repeater 7 0 0 1 ++ repeater 8 0 0 1)
     ∷ set job 113 1
     ∷ set job 117 1
@@ -74,5 +75,5 @@ others =
     ∷ []
 
 numbers : map refusal (passing ++ first22 ++ first23 ++ around22 ++ others) ≡ 0 ∷ 0 ∷ 22 ∷ 22 ∷ 22 ∷ 22 ∷ 23 ∷ 23 ∷ 22 ∷ 11 ∷ 2 ∷ 3 ∷ 4 ∷ 5 ∷ 5 ∷ []
-unfolding every some countIf countsOf widthsOf firstRow question1 question2 question24 question3 question4 zeros question5 question6 question7 question8 question9 sinkOrZero question10 hasBranches question11 question22 question23 firstNo jobQuestions refusal littleEndian
+unfolding every some countIf countsOf widthsOf firstRow question1 question2 question24 question3 question4 zeros weightZeros question5 question6 question7 question8 question9 sinkOrZero question10 hasBranches question11 question22 question23 question20 question21 firstNo jobQuestions refusal littleEndian
 numbers = refl

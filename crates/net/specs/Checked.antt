@@ -1,5 +1,5 @@
 -- What the contracts of inner functions ask: the facts that a job's passed questions give. `proofs/Questions` shows that every job that passes
--- questions 1 to 11 and 22 to 24 has them; no public operation asks them of its caller.
+-- questions 1 to 11 and 20 to 24 has them; no public operation asks them of its caller.
 use mathlib.Core.Path.{_≡_}
 use mathlib.Core.List.{List}
 use Prim.Native.Nat.{ℕ, suc, _+_, _*_, _≤_, _<_}
@@ -7,7 +7,7 @@ use lib.ListN.{length}
 use Rattle.lattice.specs.Lists.{at}
 use Rattle.lattice.specs.Space.{Falls, Rises, Allowed}
 use Rattle.net.specs.declared.Counts.{Counts}
-use Rattle.net.specs.Job.{countsOf, placesBy, widthsOf, firstRow, rowResistance, rowCapacitance, sizeResistance, sizeGate, sizeOutput, segmentLength, segmentLayer}
+use Rattle.net.specs.Job.{countsOf, weightRecords, placesBy, widthsOf, firstRow, rowResistance, rowCapacitance, sizeResistance, sizeGate, sizeOutput, segmentSink, segmentLength, segmentLayer, weightAt, weightSegment, weightForm, weightWhole}
 use Rattle.net.specs.Net.{Net, places, netBy}
 use Rattle.net.specs.Sizings.{allowed}
 
@@ -16,7 +16,19 @@ pub record Held (c : Counts) (b : List ℕ) : Type 0 where
   pub all : 16 * (c .widths + c .sizes + c .stages + c .segments + c .repeaters) ≤ length b
   pub layers : c .layer0 ≤ c .widths
 
--- What questions 1 to 10, 22 and 23 give, with the counts of the job's records.
+-- A job has n weight records, and they are there.
+pub record WeightsHeld (c : Counts) (b : List ℕ) (n : ℕ) : Type 0 where
+  pub counted : n ≡ weightRecords b
+  pub there : weightAt c n ≤ length b
+
+-- What question 20 asks of weight record w.
+pub record WeightFits (c : Counts) (b : List ℕ) (w : ℕ) : Type 0 where
+  pub segment : weightSegment c b w < c .segments
+  pub sink : segmentSink c b (weightSegment c b w) ≡ 0 → ⊥
+  pub form : weightForm c b w ≤ 2
+  pub whole : weightForm c b w ≡ 1 → weightWhole c b w ≤ 255
+
+-- What questions 1 to 10, 20, 22 and 23 give, with the counts of the job's records.
 pub record Checked (c : Counts) (b : List ℕ) : Type 0 where
   -- 1, 2 and 3
   pub counted : c ≡ countsOf b
@@ -45,11 +57,17 @@ pub record Checked (c : Counts) (b : List ℕ) : Type 0 where
   -- 10
   pub lengths : (i : ℕ) → i < c .segments → segmentLength c b i ≤ 1000
   pub sinks : (i : ℕ) → i < c .segments → netBy c b .sink i ≤ 100000
+  -- 10 and 20
   pub weights : (i : ℕ) → i < c .segments → netBy c b .weight i ≤ 255
   -- 22
   pub sites : (r : ℕ) → r < c .repeaters → netBy c b .site r < c .segments
   pub branched : (r : ℕ) → r < c .repeaters → (j : ℕ) × (j < c .segments) × (netBy c b .parent j ≡ suc (netBy c b .site r))
   pub rising : (r : ℕ) → suc r < c .repeaters → netBy c b .site r < netBy c b .site (suc r)
+
+-- t is a table of the weights of the segments' sinks, which a job's check fills.
+pub record SinkWeights (c : Counts) (b : List ℕ) (t : List ℕ) : Type 0 where
+  pub long : length t ≡ 64
+  pub weighs : (i : ℕ) → i < c .segments → at t i ≡ netBy c b .weight i
 
 -- x is an allowed sizing of the job's net.
 abbrev pub AllowedBy : Counts → List ℕ → List ℕ → Type 0

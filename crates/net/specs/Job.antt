@@ -18,7 +18,7 @@ word b at = byte b at + 256 * byte b (at + 1) + 65536 * byte b (at + 2) + 167772
 abbrev pub records : List ℕ → ℕ
 records b = _/_ (length b) 16
 
--- The kind of record r: 1 a width, 2 a driver size, 3 a stage, 4 a segment, 5 a repeater.
+-- The kind of record r: 1 a width, 2 a driver size, 3 a stage, 4 a segment, 5 a repeater, 6 a weight.
 abbrev pub kind : List ℕ → ℕ → ℕ
 kind b r = byte b (16 * r)
 
@@ -41,7 +41,7 @@ count b k n = countIf (λ r. eqb (kind b r) k) n
 abbrev pub countLayer0 : List ℕ → ℕ → ℕ
 countLayer0 b n = countIf (λ r. eqb (kind b r) 1 && eqb (widthLayer b r) 0) n
 
--- How many records of each kind a job has, and how many of its widths are of layer 0.
+-- How many records of each of the kinds 1 to 5 a job has, and how many of its widths are of layer 0.
 unfoldable pub countsOf : List ℕ → Counts
 countsOf b =
     record {
@@ -52,6 +52,10 @@ countsOf b =
       segments = count b 4 (records b);
       repeaters = count b 5 (records b);
     }
+
+-- How many weight records a job has.
+abbrev pub weightRecords : List ℕ → ℕ
+weightRecords b = count b 6 (records b)
 
 -- How many places there are. A place, a term of the specification, is a stage, a segment or a repeater: stages first, then segments, then repeaters.
 abbrev pub placesBy : Counts → ℕ
@@ -84,6 +88,10 @@ segmentAt c i = placeAt c (c .stages + i)
 
 abbrev pub repeaterAt : Counts → ℕ → ℕ
 repeaterAt c r = placeAt c (c .stages + c .segments + r)
+
+-- Weight records are no places; they come behind them.
+abbrev pub weightAt : Counts → ℕ → ℕ
+weightAt c w = placeAt c (placesBy c + w)
 
 -- The fields of width k, counted through both layers.
 abbrev pub rowResistance : List ℕ → ℕ → ℕ
@@ -123,8 +131,8 @@ module _ (c : Counts) (b : List ℕ) where
   abbrev pub sinkCapacitance : ℕ → ℕ
   sinkCapacitance i = word b (segmentAt c i + 8)
 
-  abbrev pub sinkWeight : ℕ → ℕ
-  sinkWeight i = byte b (segmentAt c i + 12)
+  abbrev pub segmentWeight : ℕ → ℕ
+  segmentWeight i = byte b (segmentAt c i + 12)
 
   abbrev pub segmentLowest : ℕ → ℕ
   segmentLowest i = byte b (segmentAt c i + 13)
@@ -144,3 +152,17 @@ module _ (c : Counts) (b : List ℕ) where
 
   abbrev pub repeaterHighest : ℕ → ℕ
   repeaterHighest r = byte b (repeaterAt c r + 4)
+
+  -- The fields of weight record w: the segment whose sink it weighs, by its number, the form, and by the form a whole number (1) or the bits of a
+  -- binary64 (2), the lowest byte first.
+  abbrev pub weightSegment : ℕ → ℕ
+  weightSegment w = byte b (weightAt c w + 1)
+
+  abbrev pub weightForm : ℕ → ℕ
+  weightForm w = byte b (weightAt c w + 2)
+
+  abbrev pub weightWhole : ℕ → ℕ
+  weightWhole w = word b (weightAt c w + 4)
+
+  abbrev pub weightBits : ℕ → ℕ
+  weightBits w = word b (weightAt c w + 8) + 4294967296 * word b (weightAt c w + 12)

@@ -2,7 +2,8 @@
 use mathlib.Core.List.{List}
 use Prim.Native.Nat.{ℕ, _+_, _*_}
 use Rattle.net.specs.declared.Counts.{Counts}
-use Rattle.net.specs.Job.{countsOf, ofKind, firstRow, rowResistance, rowCapacitance, sizeResistance, sizeGate, sizeOutput, stageLowest, stageHighest, segmentParent, segmentLength, sinkCapacitance, sinkWeight, segmentLowest, segmentHighest, segmentLayer, repeaterSegment, repeaterLowest, repeaterHighest}
+use Rattle.net.specs.Job.{countsOf, ofKind, firstRow, rowResistance, rowCapacitance, sizeResistance, sizeGate, sizeOutput, stageLowest, stageHighest, segmentParent, segmentLength, sinkCapacitance, segmentLowest, segmentHighest, segmentLayer, repeaterSegment, repeaterLowest, repeaterHighest}
+use Rattle.net.specs.Weights.{sinkWeight}
 
 -- An index is the size of a stage's or a repeater's driver, or the width of a segment's wire. A node is where branches hang: 0 is the source,
 -- `suc i` the far end of segment i, so a parent byte is the node that its segment hangs at.
@@ -32,7 +33,7 @@ abbrev pub places : Net → ℕ
 places net = net .stages + net .segments + net .repeaters
 
 -- The net that a job describes, by the counts of its records: a segment's resistance at the width k is that of row k of its own layer times its
--- length, its capacitance likewise.
+-- length, its capacitance likewise. A sink's weight is in 256ths.
 abbrev pub netBy : Counts → List ℕ → Net
 netBy c b =
     record {

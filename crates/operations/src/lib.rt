@@ -32,7 +32,8 @@ pub fn measure(job: &[u8], sizing: &[u8]) -> Measurement
 {
     let mut first = [0usize; 65];
     let mut next = [0usize; 64];
-    let checked = questions::check(job, &mut first, &mut next);
+    let mut weights = [0u8; 64];
+    let checked = questions::check(job, &mut first, &mut next, &mut weights);
     if checked.number != 0 {
         return Measurement::Refused(checked.number);
     }
@@ -41,7 +42,7 @@ pub fn measure(job: &[u8], sizing: &[u8]) -> Measurement
     if number != 0 {
         return Measurement::Refused(number);
     }
-    Measurement::Figures(elmore::figures(job, counts, &first, &next, sizing))
+    Measurement::Figures(elmore::figures(job, counts, &first, &next, &weights, sizing))
 }
 
 // The best indices at a place, the rest of the sizing held, and the scaled delay that they reach.
@@ -51,7 +52,8 @@ pub fn refine(job: &[u8], sizing: &[u8], place: usize) -> Refinement
 {
     let mut first = [0usize; 65];
     let mut next = [0usize; 64];
-    let checked = questions::check(job, &mut first, &mut next);
+    let mut weights = [0u8; 64];
+    let checked = questions::check(job, &mut first, &mut next, &mut weights);
     if checked.number != 0 {
         return Refinement::Refused(checked.number);
     }
@@ -65,7 +67,7 @@ pub fn refine(job: &[u8], sizing: &[u8], place: usize) -> Refinement
         return Refinement::Refused(17);
     }
     let held = &sizing[..places];
-    Refinement::Best(best::refine_at(job, counts, held, place))
+    Refinement::Best(best::refine_at(job, counts, &weights, held, place))
 }
 
 // The one of two sizings that has the smaller delay, at a tie the first, and its P.
@@ -74,7 +76,8 @@ pub fn prefer(job: &[u8], x: &[u8], y: &[u8]) -> Preference
 {
     let mut first = [0usize; 65];
     let mut next = [0usize; 64];
-    let checked = questions::check(job, &mut first, &mut next);
+    let mut weights = [0u8; 64];
+    let checked = questions::check(job, &mut first, &mut next, &mut weights);
     if checked.number != 0 {
         return Preference::Neither;
     }
@@ -86,8 +89,8 @@ pub fn prefer(job: &[u8], x: &[u8], y: &[u8]) -> Preference
         return Preference::Neither;
     }
     let places = counts.stages + counts.segments + counts.repeaters;
-    let of_x = elmore::delay(job, counts, &first, &next, x);
-    let of_y = elmore::delay(job, counts, &first, &next, y);
+    let of_x = elmore::delay(job, counts, &first, &next, &weights, x);
+    let of_y = elmore::delay(job, counts, &first, &next, &weights, y);
     if of_x.0 <= of_y.0 {
         return Preference::First(places);
     }

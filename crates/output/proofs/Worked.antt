@@ -14,7 +14,8 @@ use Rattle.net.specs.Net.{netOf}
 use Rattle.net.specs.Sizings.{leastDelay, lean, wide, lowerBound, upperBound}
 use Rattle.net.specs.Job.{countIf, countsOf, ofKind, widthsOf, firstRow}
 use Rattle.net.specs.Delay.{branchesTo, climb, repeated, atRepeater, under, stageLoad, stagesDelay, segmentDelay, delay}
-use Rattle.net.specs.Questions.{question1, question2, question24, question3, question4, zeros, sinkOrZero, question5, question6, question7, question8, question9, question10, hasBranches, question11, question22, question23, firstNo, jobQuestions}
+use Rattle.net.specs.Weights.{lastAt, sinkWeight}
+use Rattle.net.specs.Questions.{question1, question2, question24, question3, question4, zeros, weightZeros, sinkOrZero, question5, question6, question7, question8, question9, question10, hasBranches, question11, question22, question23, question20, question21, firstNo, jobQuestions}
 use Rattle.net.specs.Answers.{littleEndian, sizeNumber}
 use Rattle.net.specs.Starred.{J2, J4}
 use Rattle.output.specs.Printed.{indexText, placeLine, kindLines, placeLines, netLines, refusedLine, answerText, jobNumber, jobText, printed, told}
@@ -30,11 +31,11 @@ record Answered (job : List ℕ) (d : ℕ) (lo hi l w : List ℕ) : Type 0 where
   wide : wide (netOf job) ≡ w
 
 of-J4 : Answered J4 260 (0 ∷ 0 ∷ 0 ∷ []) (0 ∷ 1 ∷ 1 ∷ []) (0 ∷ 0 ∷ 0 ∷ []) (0 ∷ 0 ∷ 0 ∷ [])
-unfolding tabulate keep from span extremeOf every some sum product grid inBox within least.sizings least.envelope least.leastDelay least.leasts least.leastEnvelope refining.choices refining.leastAt refining.best refining.fixed refining.bound refining.room countIf countsOf ofKind widthsOf firstRow branchesTo climb repeated atRepeater under stageLoad stagesDelay segmentDelay delay question1 question2 question24 question3 question4 zeros sinkOrZero question5 question6 question7 question8 question9 question10 hasBranches question11 question22 question23 firstNo jobQuestions littleEndian sizeNumber jobNumber flatMap
+unfolding tabulate keep from span extremeOf every some sum product grid inBox within least.sizings least.envelope least.leastDelay least.leasts least.leastEnvelope refining.choices refining.leastAt refining.best refining.fixed refining.bound refining.room countIf countsOf ofKind widthsOf firstRow branchesTo climb repeated atRepeater under stageLoad stagesDelay segmentDelay lastAt sinkWeight delay question1 question2 question24 question3 question4 zeros weightZeros sinkOrZero question5 question6 question7 question8 question9 question10 hasBranches question11 question22 question23 question20 question21 firstNo jobQuestions littleEndian sizeNumber jobNumber flatMap
 of-J4 = record { number = refl; least = refl; lower = refl; upper = refl; lean = refl; wide = refl }
 
 of-J2 : Answered J2 166 (0 ∷ 0 ∷ []) (0 ∷ 1 ∷ []) (0 ∷ 0 ∷ []) (0 ∷ 1 ∷ [])
-unfolding tabulate keep from span extremeOf every some sum product grid inBox within least.sizings least.envelope least.leastDelay least.leasts least.leastEnvelope refining.choices refining.leastAt refining.best refining.fixed refining.bound refining.room countIf countsOf ofKind widthsOf firstRow branchesTo climb repeated atRepeater under stageLoad stagesDelay segmentDelay delay question1 question2 question24 question3 question4 zeros sinkOrZero question5 question6 question7 question8 question9 question10 hasBranches question11 question22 question23 firstNo jobQuestions littleEndian sizeNumber jobNumber flatMap
+unfolding tabulate keep from span extremeOf every some sum product grid inBox within least.sizings least.envelope least.leastDelay least.leasts least.leastEnvelope refining.choices refining.leastAt refining.best refining.fixed refining.bound refining.room countIf countsOf ofKind widthsOf firstRow branchesTo climb repeated atRepeater under stageLoad stagesDelay segmentDelay lastAt sinkWeight delay question1 question2 question24 question3 question4 zeros weightZeros sinkOrZero question5 question6 question7 question8 question9 question10 hasBranches question11 question22 question23 question20 question21 firstNo jobQuestions littleEndian sizeNumber jobNumber flatMap
 of-J2 = record { number = refl; least = refl; lower = refl; upper = refl; lean = refl; wide = refl }
 
 -- The text of an answered job, from its figures.

@@ -9,7 +9,7 @@ ghost use mathlib.Core.Path.{_≡_};
 ghost use Prim.Native.Nat.{suc, _+_, _*_, _<_};
 ghost use lib.ListN.{length};
 ghost use Rattle.net.specs.Net.{netBy};
-ghost use Rattle.net.specs.Checked.{Checked};
+ghost use Rattle.net.specs.Checked.{Checked, SinkWeights};
 ghost use Rattle.stages.specs.Ready.{Ready};
 ghost use Rattle.parts.specs.Step.{Fields, Empty, lag, RoomCharged, RoomBehind, Behind, RoomJoined, Joined};
 ghost use Rattle.parts.specs.Seats.{SeatedTo, Seated};
@@ -36,15 +36,16 @@ pub struct PartAndCharge {
     pub charge: Capacitance,
 }
 
-// Segment i, as the sizing has it.
-pub fn sized(job: &[u8], counts: Counts, sizing: &[u8], i: usize) -> Segment
+// Segment i, as the sizing has it; `weights` has the weights of the sinks.
+pub fn sized(job: &[u8], counts: Counts, weights: &[u8; 64], sizing: &[u8], i: usize) -> Segment
     requires { ⌜ Ready counts (now job) (now sizing) ⌝ }
+    requires { ⌜ SinkWeights counts (now job) (now weights) ⌝ }
     requires { ⌜ i < counts .segments ⌝ }
     ensures { λ r. ⌜ Fields (netBy counts (now (job .entry))) (now (sizing .entry)) i r ⌝ }
 {
     let width = job::index_at(sizing, counts.stages + i);
     Segment {
-        weight: job::weight(job, counts, i),
+        weight: job::weight(weights, i),
         sink: job::sink(job, counts, i),
         wire: job::wire_at(job, counts, i, width),
     }

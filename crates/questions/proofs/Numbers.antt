@@ -2,25 +2,28 @@
 use mathlib.Core.Path.{_≡_, _∙_, refl, sym, ap}
 use mathlib.Core.Bool.{Bool, true, false, not, cond}
 use mathlib.Core.List.{List, [], _∷_, _++_}
-use Prim.Native.Nat.{ℕ, zero, suc, _*_, _%_, _≤_}
-use native.Mathlib.Nat.{div-add-mod'}
+use Prim.Native.Nat.{ℕ, zero, suc, _+_, _*_, _%_, _≤_}
+use native.Mathlib.Nat.{add-assoc, div-add-mod'}
 use native.Mathlib.Omega.{arith}
 use borrow.Author.Tests.{not-true, not-false}
 use lib.Dec.{T, ltb, eqb, ltb→lt}
 use lib.ListN.{length}
 use Rattle.lattice.proofs.ListLaws.{and-T}
 use Rattle.net.specs.declared.Counts.{Counts}
-use Rattle.net.specs.Job.{records, countsOf, widthsOf}
+use Rattle.net.specs.Job.{records, countsOf, weightRecords, placesBy, widthsOf}
 use Rattle.net.specs.Net.{netBy}
 use Rattle.net.specs.Questions.{inRange, question1, question2, question24, question3, question4, question5, question6, question7, question8, question9, Question, ask, firstNo, jobQuestions, refusal}
-use Rattle.net.specs.Checked.{Held}
-use Rattle.net.proofs.Records.{records-fill, counts-small, layer0-small, counts-held}
+use Rattle.net.specs.Checked.{Held, WeightsHeld, SinkWeights}
+use Rattle.net.proofs.Records.{records-fill, counts-small, layer0-small, counts-held, counts-fill, weights-held}
 use Rattle.net.proofs.Questions.{in-range, checked}
+use Rattle.net.specs.Weights.{lastAt}
 use Rattle.links.specs.Links.{Linked}
+use Rattle.segments.specs.Tests.{OwnWeights}
+use Rattle.sinks.specs.Loaded.{LoadedTo}
 use Rattle.questions.specs.declared.Outcome.{Outcome}
 use Rattle.kinds.specs.Counted.{countsTo}
 use Rattle.asked.specs.Parts.{Counted}
-use Rattle.questions.specs.Check.{CheckOf, Linkable, Asked, questionsFrom10, questionsFrom9, questionsFrom7, questionsFrom24}
+use Rattle.questions.specs.Check.{CheckOf, Linkable, Asked, questionsFrom20, questionsFrom22, questionsFrom10, questionsFrom9, questionsFrom7, questionsFrom24}
 
 -- r is the answer to the question q, the first of those that are left: yes, and a later one decides; or no
 pub yes : (m : ℕ) (qs : List Question) {q r : Bool} {n : ℕ} → r ≡ q → not r ≡ false → n ≡ firstNo qs → n ≡ firstNo (ask m q ∷ qs)
@@ -67,6 +70,19 @@ pub counted-all : (b : List ℕ) (n : ℕ) {c : Counts} → n ≡ records b → 
 unfolding countsOf
 counted-all b n e f = f ∙ ap (countsTo b) e
 
+-- Where questions 1 and 2 pass, the records that are not counted by kind are the weight records, and they are there.
+pub all-counted : (b : List ℕ) → question1 b ≡ true → question2 b ≡ true
+    → countsOf b .widths + countsOf b .sizes + placesBy (countsOf b) + weightRecords b ≡ records b
+all-counted b e f = omega (arith, counts-fill b e f, records-fill b e)
+
+pub weights-there : (b : List ℕ) {c : Counts} {n : ℕ} → c ≡ countsOf b → n ≡ weightRecords b → WeightsHeld c b n
+weights-there b e f = rw (e, f) record { counted = refl; there = omega (arith, weights-held b) }
+
+-- The weight bytes of the segments are the weights before any weight record is read.
+pub own-loaded : {c : Counts} {b t : List ℕ} → OwnWeights b (c .widths + c .sizes + c .stages) (c .segments) t → LoadedTo c b 0 t
+unfolding lastAt
+own-loaded {c} o = record { long = o .long; weighs = λ i h. rw (← add-assoc (c .widths + c .sizes) (c .stages) i) (o .own i h) }
+
 -- A number that is found among some questions is that of all.
 found : (qs rs : List Question) (n : ℕ) → suc n ≡ firstNo qs → suc n ≡ firstNo (qs ++ rs)
 unfolding firstNo
@@ -102,7 +118,7 @@ module _ (b : List ℕ) {p : Bool} (one : p ≡ question1 b) where
       c = countsOf b
 
       linkable : firstNo (questionsFrom24 c b) ≡ 0 → Linkable c b
-      unfolding questionsFrom24 questionsFrom7 questionsFrom9 questionsFrom10 refusal jobQuestions
+      unfolding questionsFrom24 questionsFrom7 questionsFrom9 questionsFrom10 questionsFrom22 questionsFrom20 refusal jobQuestions
       linkable e =
           let a24 = passed 23 (question24 c b) _ e in
           let a3 = passed 2 (question3 c) _ (a24 .1) in
@@ -114,12 +130,13 @@ module _ (b : List ℕ) {p : Bool} (one : p ≡ question1 b) where
           record {
             counted = refl;
             held = counts-held b;
+            filled = all-counted b (sym one ∙ not-false p t) (sym two ∙ not-false q u);
             few = in-counts c (a3 .0) refl .1;
             decides = yes _ _ one t (yes _ _ two u (yes _ _ (a24 .0) refl (yes _ _ (a3 .0) refl (yes _ _ (a4 .0) refl (yes _ _ (a5 .0) refl (yes _ _ (a6 .0) refl (yes _ _ (a7 .0) refl (yes _ _ (a8 .0) refl refl))))))));
           }
 
       later : (n : ℕ) → n ≡ firstNo (questionsFrom24 c b) → (n ≡ 0 → ⊥) → n ≡ refusal b
-      unfolding questionsFrom24 questionsFrom7 questionsFrom9 questionsFrom10 refusal jobQuestions
+      unfolding questionsFrom24 questionsFrom7 questionsFrom9 questionsFrom10 questionsFrom22 questionsFrom20 refusal jobQuestions
       later zero e h = absurd (h refl)
       later (suc n) e h = yes _ _ one t (yes _ _ two u (found (questionsFrom24 c b) (questionsFrom9 c b) n e))
 
@@ -131,13 +148,13 @@ filled : {b : List ℕ} {r : Outcome} → Asked b r → question1 b ≡ true →
 filled {b} {r} a e = omega (arith, a .records, records-fill b e)
 
 -- What `check` says, by how it ends.
-module _ {b : List ℕ} {r : Outcome} (a : Asked b r) {first next : List ℕ} where
-  pub check-early : (r .number ≡ 0 → ⊥) → CheckOf b r first next
-  check-early h = record { number = a .fails h; records = a .records; filled = filled a; passed = λ e. absurd (h e); linked = λ e. absurd (h e) }
+module _ {b : List ℕ} {r : Outcome} (a : Asked b r) {first next weights : List ℕ} where
+  pub check-early : (r .number ≡ 0 → ⊥) → CheckOf b r first next weights
+  check-early h = record { number = a .fails h; records = a .records; filled = filled a; passed = λ e. absurd (h e); linked = λ e. absurd (h e); weighed = λ e. absurd (h e) }
 
   -- p is the answer to question 9, which linking gives
   module _ (z : r .number ≡ 0) {p : Bool} (nine : p ≡ question9 (r .counts) b) where
-    pub check-unlinked : not p ≡ true → (o : Outcome) → (o .number ≡ 9) × (o .records ≡ r .records) → CheckOf b o first next
+    pub check-unlinked : not p ≡ true → (o : Outcome) → (o .number ≡ 9) × (o .records ≡ r .records) → CheckOf b o first next weights
     unfolding questionsFrom9
     check-unlinked t o e =
         let some : o .number ≡ 0 → ⊥ = λ m. omega (arith, e .0, m) in
@@ -147,13 +164,14 @@ module _ {b : List ℕ} {r : Outcome} (a : Asked b r) {first next : List ℕ} wh
           filled = λ f. omega (arith, e .1, filled a f);
           passed = λ m. absurd (some m);
           linked = λ m. absurd (some m);
+          weighed = λ m. absurd (some m);
         }
 
     pub check-linked : not p ≡ false → (n : ℕ) → n ≡ firstNo (questionsFrom10 (r .counts) b)
-        → (p ≡ true → Linked (netBy (r .counts) b) first next)
-        → CheckOf b (record { number = n; records = r .records; counts = r .counts }) first next
+        → (p ≡ true → Linked (netBy (r .counts) b) first next) → (n ≡ 0 → SinkWeights (r .counts) b weights)
+        → CheckOf b (record { number = n; records = r .records; counts = r .counts }) first next weights
     unfolding questionsFrom9
-    check-linked t n e l =
+    check-linked t n e l w =
         let k = a .passes z in
         let d : n ≡ refusal b = yes _ _ nine t e ∙ k .decides in
         record {
@@ -162,4 +180,5 @@ module _ {b : List ℕ} {r : Outcome} (a : Asked b r) {first next : List ℕ} wh
           filled = filled a;
           passed = λ m. rw (k .counted) (checked b (sym d ∙ m));
           linked = λ m. l (not-false p t);
+          weighed = w;
         }

@@ -1,10 +1,12 @@
 -- Tests of one segment, and of the segment of one repeater, which the questions ask of each. A run starts at the record `start`; k is a record's place in
 -- it, from 0.
+use mathlib.Core.Path.{_≡_}
 use mathlib.Core.Bool.{Bool, not, _&&_, _||_}
 use mathlib.Core.List.{List}
-use Prim.Native.Nat.{ℕ, _+_}
+use Prim.Native.Nat.{ℕ, _+_, _<_}
 use lib.Dec.{leb, ltb, eqb}
-use lib.ListN.{getD}
+use lib.ListN.{length, getD}
+use Rattle.lattice.specs.Lists.{at}
 use Rattle.net.specs.declared.Counts.{Counts}
 use Rattle.net.specs.Job.{widthsOf}
 use Rattle.job.specs.Runs.{byteOf, wordOf}
@@ -26,6 +28,11 @@ module _ (b : List ℕ) where
   -- Has a segment a sink, or, by the first segment at each node, one of n segments at its far end?
   abbrev pub sinkOrBranch : List ℕ → ℕ → ℕ → ℕ → Bool
   sinkOrBranch first start n k = not (eqb (byteOf b start 3 k) 0) || ltb (getD first (k + 1) 0) n
+
+  -- t has the weight byte of each of the first n segments.
+  pub record OwnWeights (start n : ℕ) (t : List ℕ) : Type 0 where
+    pub long : length t ≡ 64
+    pub own : (k : ℕ) → k < n → at t k ≡ byteOf b start 12 k
 
   -- Is the segment of a repeater one of n, and has it branches?
   abbrev pub siteBranched : List ℕ → ℕ → ℕ → ℕ → Bool

@@ -7,7 +7,7 @@ ghost use Prim.Native.Nat.{_-_, _<_, _≤_};
 ghost use lib.ListN.{length};
 ghost use Rattle.lattice.specs.Lists.{every};
 ghost use Rattle.job.specs.Runs.{HasRun};
-ghost use Rattle.segments.specs.Tests.{segmentFits, sinkOrBranch, branched, siteBranched, sitesRise};
+ghost use Rattle.segments.specs.Tests.{segmentFits, sinkOrBranch, OwnWeights, branched, siteBranched, sitesRise};
 
 // Two tests of each segment: that of its fields, and, which says something only where the fields of all segments pass, that of its far end.
 pub struct SegmentTests {
@@ -17,17 +17,21 @@ pub struct SegmentTests {
 
 // Are the fields of each segment in range, capacitance and weight 0 where there is no sink, and lowest ≤ highest < count of widths of its layer?
 // And has each segment a sink, or branches? Where it has none, the first segment at its far end is the one past the last. Each segment is read once
-// for both; fields that do not fit end the loop, since question 10 is asked first.
+// for both; fields that do not fit end the loop, since question 10 is asked first. The weight is read here, so its byte is put into the table of the
+// sinks' weights here too.
 pub fn segments_fit(
     job: &[u8],
     counts: Counts,
     first: &[usize],
     start: usize,
     count: usize,
+    weights: &mut [u8; 64],
 ) -> SegmentTests
     requires { ⌜ HasRun (now job) start count × (counts .layer0 ≤ counts .widths) × (count < length (now first)) ⌝ }
+    requires { ⌜ (count ≤ 64) × (length (now weights) ≡ 64) ⌝ }
     ensures fields { λ r. ⌜ r .fields ≡ every count (segmentFits (now (job .entry)) counts start) ⌝ }
     ensures ends { λ r. ⌜ (r .fields ≡ true → r .ends ≡ every count (sinkOrBranch (now (job .entry)) (now (first .entry)) start count)) ⌝ }
+    ensures weights { λ r. ⌜ (r .fields ≡ true → OwnWeights (now (job .entry)) start count (now (weights .exit))) ⌝ }
 {
     let mut ends = true;
     for k in 0..count {
@@ -49,6 +53,7 @@ pub fn segments_fit(
                 ends: false,
             };
         }
+        weights[k] = weight as u8;
         let branch = first[k + 1];
         let ended = (sink != 0) | (branch < count);
         ends = ended & ends;

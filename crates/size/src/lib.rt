@@ -7,7 +7,7 @@ ghost use Prim.Native.Nat.{suc, _*_, _≤_};
 ghost use lib.ListN.{length};
 ghost use Rattle.net.specs.Job.{placesBy, countsOf};
 ghost use Rattle.net.specs.Net.{netBy};
-ghost use Rattle.net.specs.Checked.{Checked, ForPlaces};
+ghost use Rattle.net.specs.Checked.{Checked, SinkWeights, ForPlaces};
 ghost use Rattle.net.specs.Questions.{refusal};
 ghost use Rattle.net.specs.Answers.{sizeNumber, sizeBuffer};
 ghost use Rattle.net.specs.Promises.{Promises};
@@ -68,11 +68,13 @@ fn answer(
 fn bound_and_answer(
     job: &[u8],
     counts: Counts,
+    sinks: &[u8; 64],
     lower: &mut [u8],
     upper: &mut [u8],
     reply: &mut [u8],
 ) -> usize
     requires { ⌜ Checked counts (now job) ⌝ }
+    requires { ⌜ SinkWeights counts (now job) (now sinks) ⌝ }
     requires { ⌜ ForPlaces counts (now lower) × ForPlaces counts (now upper) ⌝ }
     requires { ⌜ 8 * suc (placesBy counts) ≤ length (now reply) ⌝ }
     ensures number { λ r. ⌜ r ≡ roomNumber (netBy counts (now (job .entry))) ⌝ }
@@ -83,7 +85,7 @@ fn bound_and_answer(
     let mut hangs = [0usize; 76];
     positions::arrange(job, counts, &mut order, &mut position, &mut hangs);
     let mut weights = [0u64; 76];
-    weights::weigh(job, counts, &order, &hangs, &mut weights);
+    weights::weigh(job, counts, sinks, &order, &hangs, &mut weights);
     bounds::bound(job, counts, &order, &hangs, &weights, lower, Side::Below);
     bounds::bound(job, counts, &order, &hangs, &weights, upper, Side::Above);
     answer(
@@ -99,9 +101,9 @@ fn bound_and_answer(
     )
 }
 
-// What follows the check: the questions that need a buffer or bounds, and the reply.
-fn answer_checked(job: &[u8], checked: Outcome, reply: &mut [u8]) -> usize
-    requires { ⌜ Passing (now job) checked ⌝ }
+// What follows the check, which filled the table of the sinks' weights: the questions that need a buffer or bounds, and the reply.
+fn answer_checked(job: &[u8], checked: Outcome, sinks: &[u8; 64], reply: &mut [u8]) -> usize
+    requires { ⌜ Passing (now job) checked (now sinks) ⌝ }
     ensures { λ r. ⌜ Settled (now (job .entry)) (now (reply .entry)) r (now (reply .exit)) ⌝ }
 {
     if checked.number != 0 {
@@ -117,6 +119,7 @@ fn answer_checked(job: &[u8], checked: Outcome, reply: &mut [u8]) -> usize
     bound_and_answer(
         job,
         counts,
+        sinks,
         &mut lower[..places],
         &mut upper[..places],
         reply,
@@ -131,9 +134,10 @@ pub fn size_and_counts(job: &[u8], reply: &mut [u8]) -> NumberAndCounts
 {
     let mut first = [0usize; 65];
     let mut next = [0usize; 64];
-    let checked = questions::check(job, &mut first, &mut next);
+    let mut sinks = [0u8; 64];
+    let checked = questions::check(job, &mut first, &mut next, &mut sinks);
     let counts = checked.counts;
-    let number = answer_checked(job, checked, reply);
+    let number = answer_checked(job, checked, &sinks, reply);
     NumberAndCounts {
         number: number,
         counts: counts,

@@ -21,7 +21,7 @@ use Rattle.net.proofs.InOrder.{placed, inLimits, checked-driven}
 use Rattle.place.specs.Partial.{WeightsFrom}
 use Rattle.place.specs.Held.{GatheredFrom}
 use Rattle.place.proofs.Gathering.{gathered-all, gathered-small, gathering-start, gathering-step}
-use Rattle.weights.specs.Sinks.{sinkWeight, doubled}
+use Rattle.weights.specs.Sinks.{sinkWeightAt, doubled}
 
 -- The weight of the sinks that position t drives.
 abbrev pub driven : Counts → List ℕ → ℕ → ℕ
@@ -52,10 +52,10 @@ module _ {c : Counts} {b : List ℕ} (k : Checked c b) where
         ∙ sym (gathered-all (placesBy c) (drivingBy c b .hangsAt) (driven c b) (suc t) (suc t) (λ q h m e. omega (arith, placed k .falls q m)))
 
     -- the sink's weight and what is gathered behind it
-    pub driven-is : (w : ℕ) → w ≡ sinkWeight c b (order (netBy c b) t) → w + at gathered (suc t) ≡ driven c b t
+    pub driven-is : (w : ℕ) → w ≡ sinkWeightAt c b (order (netBy c b) t) → w + at gathered (suc t) ≡ driven c b t
     driven-is w e = omega (arith, e, here, weight-behind (netBy c b) (ordered k) t few)
 
-    pub driven-few : (w : ℕ) → w ≡ sinkWeight c b (order (netBy c b) t) → w + at gathered (suc t) ≤ 16575
+    pub driven-few : (w : ℕ) → w ≡ sinkWeightAt c b (order (netBy c b) t) → w + at gathered (suc t) ≤ 16575
     driven-few w e = rw (driven-is w e) (driven-most t few)
 
     pub gathered-few : (r : ℕ) → r ≤ placesBy c → at gathered r ≤ 1259700
@@ -67,10 +67,10 @@ module _ {c : Counts} {b : List ℕ} (k : Checked c b) where
           mul-le-mul-right 16575 (inLimits k .few),
         )
 
-    pub weighing-step : (p w v u : ℕ) → p ≡ order (netBy c b) t → w ≡ sinkWeight c b p → v ≡ doubled c p (w + at gathered (suc t)) → u ≡ at gathered (drivingBy c b .hangsAt t) + (w + at gathered (suc t))
+    pub weighing-step : (p w v u : ℕ) → p ≡ order (netBy c b) t → w ≡ sinkWeightAt c b p → v ≡ doubled c p (w + at gathered (suc t)) → u ≡ at gathered (drivingBy c b .hangsAt t) + (w + at gathered (suc t))
         → Weighing c b t (set weights t v) (set gathered (drivingBy c b .hangsAt t) u)
     weighing-step p w v u a e f g =
-        let d : w + at gathered (suc t) ≡ driven c b t = driven-is w (e ∙ ap (sinkWeight c b) a) in
+        let d : w + at gathered (suc t) ≡ driven c b t = driven-is w (e ∙ ap (sinkWeightAt c b) a) in
         record {
           weighs = record {
             long = rw (length-set weights t v) (i .weighs .long);
@@ -81,5 +81,5 @@ module _ {c : Counts} {b : List ℕ} (k : Checked c b) where
         }
       where
         place : (q : ℕ) → q < placesBy c → (t ≡ q) ⊎ (t < q) → at (set weights t v) q ≡ drivingBy c b .weight q
-        place q m (inl z) = rw (← z) (getD-set-same weights t v 0 (omega (arith, i .weighs .long)) ∙ f ∙ rw (a, driven-is w (e ∙ ap (sinkWeight c b) a)))
+        place q m (inl z) = rw (← z) (getD-set-same weights t v 0 (omega (arith, i .weighs .long)) ∙ f ∙ rw (a, driven-is w (e ∙ ap (sinkWeightAt c b) a)))
         place q m (inr z) = getD-set-other weights t q v 0 (λ n. omega arith) ∙ i .weighs .held q z m

@@ -9,11 +9,11 @@ use Rattle.net.specs.Places.{byKind}
 use Rattle.job.specs.Ranges.{driverAt}
 
 -- The weight of the sink at the far end of place p, by its kind.
-abbrev pub sinkWeight : Counts → List ℕ → ℕ → ℕ
-sinkWeight c b p = byKind (netBy c b) (λ s. 0) (netBy c b .weight) (λ r. 0) p
+abbrev pub sinkWeightAt : Counts → List ℕ → ℕ → ℕ
+sinkWeightAt c b p = byKind (netBy c b) (λ s. 0) (netBy c b .weight) (λ r. 0) p
 
 abbrev pub SinkWeight : Counts → List ℕ → ℕ → ℕ → Type 0
-SinkWeight c b p w = (w ≡ sinkWeight c b p) × (w ≤ 255)
+SinkWeight c b p w = (w ≡ sinkWeightAt c b p) × (w ≤ 255)
 
 -- The weight w of what place p drives, twice for a driver.
 abbrev pub doubled : Counts → ℕ → ℕ → ℕ

@@ -31,6 +31,12 @@ add-start-2 c = search needs
 numbers-in-order-requires-5 : tie.Need-numbers-in-order-requires-5
 numbers-in-order-requires-5 c κs = search needs
 
+first-weight-requires : tie.Need-first-weight-requires
+first-weight-requires c κs = search needs
+
+segments-rise-requires : tie.Need-segments-rise-requires
+segments-rise-requires c κs = search needs
+
 add-numbers-in-order : tie.Need-add-numbers-in-order
 add-numbers-in-order c = search needs
 
@@ -39,13 +45,14 @@ numbers-in-order-requires-6 c κs = search needs
 
 returns : tie.Need-returns
 returns c =
-    question4-by _ _
-    (c .before .before .before .before .before .before .before .before .numbers-in-order .ensures)
-    (c .before .before .before .before .before .before .numbers-in-order2 .ensures)
-    (c .before .before .before .before .before .numbers-in-order3 .ensures)
-    (c .before .before .before .before .numbers-in-order4 .ensures)
+    question4-by _ _ (c .before .before .before .before .before .before .before .before .before .before .before .before .before .pre .1 .counted)
+    (c .before .before .before .before .before .before .before .before .before .before .numbers-in-order .ensures)
+    (c .before .before .before .before .before .before .before .before .numbers-in-order2 .ensures)
+    (c .before .before .before .before .before .before .before .numbers-in-order3 .ensures)
+    (c .before .before .before .before .before .before .numbers-in-order4 .ensures)
     (c .numbers-in-order6 .ensures)
-    (c .before .before .numbers-in-order5 .ensures)
+    (c .before .before .before .before .numbers-in-order5 .ensures)
+    (rw (c .before .before .before .first-weight .ensures) at (c .before .before .segments-rise .ensures))
 
 pub question4-spec : {M : Type 1} → statement M
 question4-spec =
@@ -60,6 +67,8 @@ question4-spec =
     add-start
     add-start-2
     numbers-in-order-requires-5
+    first-weight-requires
+    segments-rise-requires
     add-numbers-in-order
     numbers-in-order-requires-6
     returns)

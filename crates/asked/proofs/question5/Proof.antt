@@ -28,16 +28,23 @@ words-within-requires-4 c κs = search needs
 repeaters-zero-requires : tie.Need-repeaters-zero-requires
 repeaters-zero-requires c κs = search needs
 
+first-weight-requires : tie.Need-first-weight-requires
+first-weight-requires c κs = search needs
+
+unnamed-zero-requires : tie.Need-unnamed-zero-requires
+unnamed-zero-requires c κs = search needs
+
 returns : tie.Need-returns
 returns c =
-    question5-by _ _
-    (c .before .before .before .before .before .before .bytes-zero .ensures)
-    (c .before .before .before .before .before .words-within .ensures)
-    (c .before .before .before .before .bytes-zero2 .ensures)
-    (c .before .before .before .words-within2 .ensures)
-    (c .before .before .words-within3 .ensures)
-    (c .before .words-within4 .ensures)
-    (c .repeaters-zero .ensures)
+    question5-by _ _ (c .before .before .before .before .before .before .before .before .before .before .before .pre .1 .counted)
+    (c .before .before .before .before .before .before .before .before .bytes-zero .ensures)
+    (c .before .before .before .before .before .before .before .words-within .ensures)
+    (c .before .before .before .before .before .before .bytes-zero2 .ensures)
+    (c .before .before .before .before .before .words-within2 .ensures)
+    (c .before .before .before .before .words-within3 .ensures)
+    (c .before .before .before .words-within4 .ensures)
+    (c .before .before .repeaters-zero .ensures)
+    (rw (c .before .first-weight .ensures) at (c .unnamed-zero .ensures))
 
 pub question5-spec : {M : Type 1} → statement M
 question5-spec =
@@ -51,4 +58,6 @@ question5-spec =
     words-within-requires-3
     words-within-requires-4
     repeaters-zero-requires
+    first-weight-requires
+    unnamed-zero-requires
     returns)

@@ -7,34 +7,27 @@ use Rattle.net.proofs.Questions.{allowed-long, allowed-ranges}
 use Rattle.best.proofs.Drivers.{ClimbedTo, to-start, to-top, to-fits, to-driver, to-wire, to-less}
 use Rattle.best.proofs.upstream_of.Statement.{statement}
 use Rattle.best.proofs.upstream_of.Tie as tie
-use Rattle.best.proofs.upstream_of.Reads as reads
-use Rattle.best.proofs.upstream_of.Lts as lts
-use Rattle.best.proofs.drives.Reads as drives-reads
-use Rattle.best.proofs.weight_at.Reads as weight-at-reads
-use Rattle.job.proofs.is_driver.Reads as is-driver-reads
-use Rattle.place.proofs.slope.Reads as slope-reads
-use Rattle.quantity.proofs.add_resistance.Reads as add-resistance-reads
 
 abbrev Inv-loop : tie.InvT-loop
-Inv-loop job counts sizing seats nodes p sum₀ a₀ sum a = ClimbedTo counts job sizing p a (sum .0)
+Inv-loop job counts weights sizing seats nodes p sum₀ a₀ sum a = ClimbedTo counts job sizing p a (sum .0)
 
 abbrev μ-loop : tie.MeasureT-loop
-μ-loop job counts sizing seats nodes p sum₀ a₀ sum a = placedBy counts job .hangsAt a
+μ-loop job counts weights sizing seats nodes p sum₀ a₀ sum a = placedBy counts job .hangsAt a
 
 loop-holds : tie.Need-loop-holds Inv-loop μ-loop
 loop-holds c =
     let b = c .before .before in
-    to-start (b .pre .0) (b .args .sizing .now) (b .pre .1 .0) (b .args .p) (b .pre .1 .1 .1 .1)
+    to-start (b .pre .0) (b .args .sizing .now) (b .pre .1 .0) (b .args .p) (b .pre .1 .1 .1 .1 .1)
 
 drives-requires : tie.Need-drives-requires Inv-loop μ-loop
 drives-requires c κs =
     let b = c .before .before .before .before in
-    (b .pre .0, (b .pre .1 .1 .0, (c .loop-test .taken, c .before .loop .inv .0)))
+    (b .pre .0, (b .pre .1 .1 .1 .0, (c .loop-test .taken, c .before .loop .inv .0)))
 
 weight-at-requires : tie.Need-weight-at-requires Inv-loop μ-loop
 weight-at-requires c κs =
     let b = c .before .before .before .before .before in
-    (b .pre .0, (b .pre .1 .1 .1 .0, c .drives .ensures .0))
+    (b .pre .0, (b .pre .1 .1 .0, (b .pre .1 .1 .1 .1 .0, c .drives .ensures .0)))
 
 shared-slice-read-slope : tie.Need-shared-slice-read-slope Inv-loop μ-loop
 shared-slice-read-slope c =
@@ -50,7 +43,7 @@ slope-requires c κs =
 add-resistance-requires : tie.Need-add-resistance-requires Inv-loop μ-loop
 add-resistance-requires c κs =
     let b = c .before .before .before .before .before .before .before .before in
-    omega (arith, to-fits (b .pre .0) (b .args .sizing .now) (b .pre .1 .0) (b .args .p) (b .pre .1 .1 .1 .1) _ _ _ _ (c .before .before .before .before .before .loop .inv) (c .before .before .before .drives .ensures) (c .slope .ensures .0))
+    omega (arith, to-fits (b .pre .0) (b .args .sizing .now) (b .pre .1 .0) (b .args .p) (b .pre .1 .1 .1 .1 .1) _ _ _ _ (c .before .before .before .before .before .loop .inv) (c .before .before .before .drives .ensures) (c .slope .ensures .0))
 
 is-driver-requires : tie.Need-is-driver-requires Inv-loop μ-loop
 is-driver-requires c κs = let k = c .before .before .before .before .before .before .before .before .before .pre .0 in (k .fewStages, k .fewSegments)
@@ -58,22 +51,22 @@ is-driver-requires c κs = let k = c .before .before .before .before .before .be
 returns : tie.Need-returns Inv-loop μ-loop
 returns c =
     let b = c .before .before .before .before .before .before .before .before .before .before .before in
-    λ u i. c .before .before .add-resistance .ensures .0 ∙ to-driver (b .pre .0) (b .args .sizing .now) (b .pre .1 .0) (b .args .p) (b .pre .1 .1 .1 .1) _ _ _ _ (c .before .before .before .before .before .before .before .before .loop .inv) (c .before .before .before .before .before .before .drives .ensures) (c .before .before .before .slope .ensures .0) (sym (c .before .is-driver .ensures) ∙ c .if1 .taken) u i
+    λ u i. c .before .before .add-resistance .ensures .0 ∙ to-driver (b .pre .0) (b .args .sizing .now) (b .pre .1 .0) (b .args .p) (b .pre .1 .1 .1 .1 .1) _ _ _ _ (c .before .before .before .before .before .before .before .before .loop .inv) (c .before .before .before .before .before .before .drives .ensures) (c .before .before .before .slope .ensures .0) (sym (c .before .is-driver .ensures) ∙ c .if1 .taken) u i
 
 loop-less : tie.Need-loop-less Inv-loop μ-loop
 loop-less c =
     let b = c .before .before .before .before .before .before .before .before .before .before .before in
-    to-less (b .pre .0) (b .args .sizing .now) (b .pre .1 .0) (b .args .p) (b .pre .1 .1 .1 .1) _ _ _ _ (c .before .before .before .before .before .before .before .before .loop .inv) (c .before .before .before .before .before .before .drives .ensures) (c .before .before .before .slope .ensures .0)
+    to-less (b .pre .0) (b .args .sizing .now) (b .pre .1 .0) (b .args .p) (b .pre .1 .1 .1 .1 .1) _ _ _ _ (c .before .before .before .before .before .before .before .before .loop .inv) (c .before .before .before .before .before .before .drives .ensures) (c .before .before .before .slope .ensures .0)
 
 loop-again : tie.Need-loop-again Inv-loop μ-loop
 loop-again c =
     let b = c .before .before .before .before .before .before .before .before .before .before .before in
-    rw (c .before .before .add-resistance .ensures .0) (to-wire (b .pre .0) (b .args .sizing .now) (b .pre .1 .0) (b .args .p) (b .pre .1 .1 .1 .1) _ _ _ _ (c .before .before .before .before .before .before .before .before .loop .inv) (c .before .before .before .before .before .before .drives .ensures) (c .before .before .before .slope .ensures .0) (sym (c .before .is-driver .ensures) ∙ c .if1 .left))
+    rw (c .before .before .add-resistance .ensures .0) (to-wire (b .pre .0) (b .args .sizing .now) (b .pre .1 .0) (b .args .p) (b .pre .1 .1 .1 .1 .1) _ _ _ _ (c .before .before .before .before .before .before .before .before .loop .inv) (c .before .before .before .before .before .before .drives .ensures) (c .before .before .before .slope .ensures .0) (sym (c .before .is-driver .ensures) ∙ c .if1 .left))
 
 returns-2 : tie.Need-returns-2 Inv-loop μ-loop
 returns-2 c =
     let b = c .before .before .before .before in
-    to-top (b .pre .0) (b .args .sizing .now) (b .pre .1 .0) (b .args .p) (b .pre .1 .1 .1 .1) _ _ (omega (arith, c .loop-test .left)) (c .before .loop .inv)
+    to-top (b .pre .0) (b .args .sizing .now) (b .pre .1 .0) (b .args .p) (b .pre .1 .1 .1 .1 .1) _ _ (omega (arith, c .loop-test .left)) (c .before .loop .inv)
 
 pub upstream-of-spec : {M : Type 1} → statement M
 upstream-of-spec =

@@ -10,13 +10,13 @@ use Rattle.elmore.proofs.size_segments.Statement.{statement}
 use Rattle.elmore.proofs.size_segments.Tie as tie
 
 abbrev Inv-loop : tie.InvT-loop
-Inv-loop job counts sizing segments₀ i₀ segments i = (i ≤ counts .segments) × SizedTo (netBy counts job) sizing i segments
+Inv-loop job counts weights sizing segments₀ i₀ segments i = (i ≤ counts .segments) × SizedTo (netBy counts job) sizing i segments
 
 abbrev μ-loop : tie.MeasureT-loop
-μ-loop job counts sizing segments₀ i₀ segments i = counts .segments - i
+μ-loop job counts weights sizing segments₀ i₀ segments i = counts .segments - i
 
 loop-holds : tie.Need-loop-holds Inv-loop μ-loop
-loop-holds c = let b = c .before .before in (omega arith, sized-none _ _ _ (b .pre .1))
+loop-holds c = let b = c .before .before in (omega arith, sized-none _ _ _ (b .pre .1 .1))
 
 sized-requires : tie.Need-sized-requires Inv-loop μ-loop
 sized-requires c κs = search needs

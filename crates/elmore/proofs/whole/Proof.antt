@@ -16,7 +16,7 @@ seat-requires c κs = let b = c .before .before .before .before .before in (b .p
 repeat-all-requires : tie.Need-repeat-all-requires
 repeat-all-requires c κs =
     let b = c .before .before .before .before .before .before .before .before .before in
-    (b .pre .0, (c .before .before .before .before .before .size-segments .ensures, (b .pre .1, (c .before .before .before .seat .ensures, refl))))
+    (b .pre .0, (c .before .before .before .before .before .size-segments .ensures, (b .pre .1 .0, (c .before .before .before .seat .ensures, refl))))
 
 element-copy-out-root : tie.Need-element-copy-out-root
 element-copy-out-root c = search needs
@@ -26,7 +26,7 @@ branches-requires c κs =
     let b = c .before .before .before .before .before .before .before .before .before .before .before .before .before .before in
     let sized = c .before .before .before .before .before .before .before .before .before .before .size-segments .ensures in
     let seated = c .before .before .before .before .before .before .before .before .seat .ensures in
-    source-some (b .pre .0) sized (b .pre .1) seated (c .before .before .before .before .repeat-all .ensures .0)
+    source-some (b .pre .0) sized (b .pre .1 .0) seated (c .before .before .before .before .repeat-all .ensures .0)
 
 returns : tie.Need-returns
 returns c =
@@ -34,7 +34,7 @@ returns c =
     let sized = c .before .before .before .before .before .before .before .before .before .before .before .size-segments .ensures in
     let seated = c .before .before .before .before .before .before .before .before .before .seat .ensures in
     let repeated = c .before .before .before .before .before .repeat-all .ensures in
-    record { source = source-tally (b .pre .0) sized (b .pre .1) seated (repeated .0) _ (c .branches .ensures); charge = repeated .1 }
+    record { source = source-tally (b .pre .0) sized (b .pre .1 .0) seated (repeated .0) _ (c .branches .ensures); charge = repeated .1 }
 
 pub whole-spec : {M : Type 1} → statement M
 whole-spec =

@@ -9,13 +9,13 @@ use Rattle.nodes.proofs.count_up.Statement.{statement}
 use Rattle.nodes.proofs.count_up.Tie as tie
 
 abbrev Inv-loop : tie.InvT-loop
-Inv-loop job counts sizing seats nodes₀ i₀ nodes i = CountedFrom (netBy counts job) sizing i nodes
+Inv-loop job counts weights sizing seats nodes₀ i₀ nodes i = CountedFrom (netBy counts job) sizing i nodes
 
 abbrev μ-loop : tie.MeasureT-loop
-μ-loop job counts sizing seats nodes₀ i₀ nodes i = i
+μ-loop job counts weights sizing seats nodes₀ i₀ nodes i = i
 
 loop-holds : tie.Need-loop-holds Inv-loop μ-loop
-loop-holds c = let b = c .before .before in counted-none (b .pre .0) _ (b .pre .1 .1)
+loop-holds c = let b = c .before .before in counted-none (b .pre .0) _ (b .pre .1 .1 .1)
 
 sub-i : tie.Need-sub-i Inv-loop μ-loop
 sub-i c = search needs
@@ -35,7 +35,7 @@ branch-requires c κs =
     let l = c .before .before .before .before .loop in
     let e : l .i ≡ suc (l .i - 1) = omega arith in
     let s = next-within (b .pre .0) (l .i) (l .i - 1) e _ (l .inv) in
-    (b .pre .0, (b .pre .1 .0, (s, far-tally (b .pre .0) (l .i) (l .i - 1) e _ (l .inv) _ (c .part-at .ensures))))
+    (b .pre .0, (b .pre .1 .0, (b .pre .1 .1 .0, (s, far-tally (b .pre .0) (l .i) (l .i - 1) e _ (l .inv) _ (c .part-at .ensures)))))
 
 parent-requires : tie.Need-parent-requires Inv-loop μ-loop
 parent-requires c κs =

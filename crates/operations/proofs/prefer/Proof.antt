@@ -19,7 +19,7 @@ check-requires c κs = search needs
 
 returns : tie.Need-returns
 returns c =
-    let b = c .before .before .before .before .before .before .before .before .before .before in
+    let b = c .before .before .before .before .before .before .before .before .before .before .before in
     let k = c .before .before .before .before .check in
     prefer-job (b .args .job .now) (b .args .x .now) (b .args .y .now) (k .result .number) (k .ensures .number) (λ e. omega arith)
 
@@ -31,7 +31,7 @@ sizing-number-requires c κs =
 
 returns-2 : tie.Need-returns-2
 returns-2 c =
-    let b = c .before .before .before .before .before .before .before .before .before .before .before .before .before in
+    let b = c .before .before .before .before .before .before .before .before .before .before .before .before .before .before in
     let k = c .before .before .before .before .before .before .before .check in
     let z : k .result .number ≡ 0 = omega arith in
     let n = c .before .sizing-number in
@@ -45,7 +45,7 @@ sizing-number-requires-2 c κs =
 
 returns-3 : tie.Need-returns-3
 returns-3 c =
-    let b = c .before .before .before .before .before .before .before .before .before .before .before .before .before .before .before in
+    let b = c .before .before .before .before .before .before .before .before .before .before .before .before .before .before .before .before in
     let k = c .before .before .before .before .before .before .before .before .before .check in
     let z : k .result .number ≡ 0 = omega arith in
     let n = c .before .sizing-number2 in
@@ -65,45 +65,45 @@ add-places-2 c =
 
 delay-requires : tie.Need-delay-requires
 delay-requires c κs =
-    let b = c .before .before .before .before .before .before .before .before .before .before .before .before .before .before .before .before .before .before .before in
-    let k = c .before .before .before .before .before .before .before .before .before .before .before .before .before .check in
+    let b = c .before .before .before .before .before .before .before .before .before .before .before .before .before .before .before .before .before .before .before .before .before in
+    let k = c .before .before .before .before .before .before .before .before .before .before .before .before .before .before .check in
     let z : k .result .number ≡ 0 = omega arith in
-    let n = c .before .before .before .before .before .before .before .sizing-number in
+    let n = c .before .before .before .before .before .before .before .before .sizing-number in
     let u : n .result ≡ 0 = omega (arith, n .ensures) in
-    (record { checked = k .ensures .passed z; inRanges = number-ranges (netBy (k .result .counts) (b .args .job .now)) (b .args .x .now) (sym (n .ensures) ∙ u) }, k .ensures .linked z)
+    (record { checked = k .ensures .passed z; inRanges = number-ranges (netBy (k .result .counts) (b .args .job .now)) (b .args .x .now) (sym (n .ensures) ∙ u) }, (k .ensures .linked z, k .ensures .weighed z))
 
 delay-requires-2 : tie.Need-delay-requires-2
 delay-requires-2 c κs =
-    let b = c .before .before .before .before .before .before .before .before .before .before .before .before .before .before .before .before .before .before .before .before .before .before in
-    let k = c .before .before .before .before .before .before .before .before .before .before .before .before .before .before .before .before .check in
-    let z : k .result .number ≡ 0 = omega (arith, c .before .before .before .before .before .before .before .before .before .before .before .before .if1 .left) in
-    let m = c .before .before .before .before .before .before .before .before .sizing-number2 in
-    let v : m .result ≡ 0 = omega (arith, c .before .before .before .before .before .before .before .if3 .left) in
-    (record { checked = k .ensures .passed z; inRanges = number-ranges (netBy (k .result .counts) (b .args .job .now)) (b .args .y .now) (sym (m .ensures) ∙ v) }, k .ensures .linked z)
+    let b = c .before .before .before .before .before .before .before .before .before .before .before .before .before .before .before .before .before .before .before .before .before .before .before .before .before in
+    let k = c .before .before .before .before .before .before .before .before .before .before .before .before .before .before .before .before .before .before .check in
+    let z : k .result .number ≡ 0 = omega (arith, c .before .before .before .before .before .before .before .before .before .before .before .before .before .before .if1 .left) in
+    let m = c .before .before .before .before .before .before .before .before .before .before .sizing-number2 in
+    let v : m .result ≡ 0 = omega (arith, c .before .before .before .before .before .before .before .before .before .if3 .left) in
+    (record { checked = k .ensures .passed z; inRanges = number-ranges (netBy (k .result .counts) (b .args .job .now)) (b .args .y .now) (sym (m .ensures) ∙ v) }, (k .ensures .linked z, k .ensures .weighed z))
 
 returns-4 : tie.Need-returns-4
 returns-4 c =
-    let b = c .before .before .before .before .before .before .before .before .before .before .before .before .before .before .before .before .before .before .before .before .before .before .before .before .before .before in
-    let k = c .before .before .before .before .before .before .before .before .before .before .before .before .before .before .before .before .before .before .before .before .check in
-    let z : k .result .number ≡ 0 = omega (arith, c .before .before .before .before .before .before .before .before .before .before .before .before .before .before .before .before .if1 .left) in
-    let n = c .before .before .before .before .before .before .before .before .before .before .before .before .before .before .sizing-number in
-    let u : n .result ≡ 0 = omega (arith, c .before .before .before .before .before .before .before .before .before .before .before .before .before .if2 .left) in
-    let m = c .before .before .before .before .before .before .before .before .before .before .before .before .sizing-number2 in
-    let v : m .result ≡ 0 = omega (arith, c .before .before .before .before .before .before .before .before .before .before .before .if3 .left) in
-    let d = c .before .before .before .before .before .before .delay in
+    let b = c .before .before .before .before .before .before .before .before .before .before .before .before .before .before .before .before .before .before .before .before .before .before .before .before .before .before .before .before .before in
+    let k = c .before .before .before .before .before .before .before .before .before .before .before .before .before .before .before .before .before .before .before .before .before .before .check in
+    let z : k .result .number ≡ 0 = omega (arith, c .before .before .before .before .before .before .before .before .before .before .before .before .before .before .before .before .before .before .if1 .left) in
+    let n = c .before .before .before .before .before .before .before .before .before .before .before .before .before .before .before .before .sizing-number in
+    let u : n .result ≡ 0 = omega (arith, c .before .before .before .before .before .before .before .before .before .before .before .before .before .before .before .if2 .left) in
+    let m = c .before .before .before .before .before .before .before .before .before .before .before .before .before .before .sizing-number2 in
+    let v : m .result ≡ 0 = omega (arith, c .before .before .before .before .before .before .before .before .before .before .before .before .before .if3 .left) in
+    let d = c .before .before .before .before .before .before .before .delay in
     let e = c .before .before .before .delay2 in
     prefer-first (b .args .job .now) (b .args .x .now) (b .args .y .now) (k .ensures .passed z) (sym (k .ensures .number) ∙ z) (sym (n .ensures) ∙ u) (sym (m .ensures) ∙ v) (d .result .0) (e .result .0) (d .ensures) (e .ensures) (omega arith)
 
 returns-5 : tie.Need-returns-5
 returns-5 c =
-    let b = c .before .before .before .before .before .before .before .before .before .before .before .before .before .before .before .before .before .before .before .before .before .before .before .before .before .before in
-    let k = c .before .before .before .before .before .before .before .before .before .before .before .before .before .before .before .before .before .before .before .before .check in
-    let z : k .result .number ≡ 0 = omega (arith, c .before .before .before .before .before .before .before .before .before .before .before .before .before .before .before .before .if1 .left) in
-    let n = c .before .before .before .before .before .before .before .before .before .before .before .before .before .before .sizing-number in
-    let u : n .result ≡ 0 = omega (arith, c .before .before .before .before .before .before .before .before .before .before .before .before .before .if2 .left) in
-    let m = c .before .before .before .before .before .before .before .before .before .before .before .before .sizing-number2 in
-    let v : m .result ≡ 0 = omega (arith, c .before .before .before .before .before .before .before .before .before .before .before .if3 .left) in
-    let d = c .before .before .before .before .before .before .delay in
+    let b = c .before .before .before .before .before .before .before .before .before .before .before .before .before .before .before .before .before .before .before .before .before .before .before .before .before .before .before .before .before in
+    let k = c .before .before .before .before .before .before .before .before .before .before .before .before .before .before .before .before .before .before .before .before .before .before .check in
+    let z : k .result .number ≡ 0 = omega (arith, c .before .before .before .before .before .before .before .before .before .before .before .before .before .before .before .before .before .before .if1 .left) in
+    let n = c .before .before .before .before .before .before .before .before .before .before .before .before .before .before .before .before .sizing-number in
+    let u : n .result ≡ 0 = omega (arith, c .before .before .before .before .before .before .before .before .before .before .before .before .before .before .before .if2 .left) in
+    let m = c .before .before .before .before .before .before .before .before .before .before .before .before .before .before .sizing-number2 in
+    let v : m .result ≡ 0 = omega (arith, c .before .before .before .before .before .before .before .before .before .before .before .before .before .if3 .left) in
+    let d = c .before .before .before .before .before .before .before .delay in
     let e = c .before .before .before .delay2 in
     prefer-second (b .args .job .now) (b .args .x .now) (b .args .y .now) (k .ensures .passed z) (sym (k .ensures .number) ∙ z) (sym (n .ensures) ∙ u) (sym (m .ensures) ∙ v) (d .result .0) (e .result .0) (d .ensures) (e .ensures) (omega arith)
 

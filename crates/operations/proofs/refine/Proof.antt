@@ -20,20 +20,20 @@ check-requires c κs = search needs
 
 returns : tie.Need-returns
 returns c =
-    let b = c .before .before .before .before .before .before .before .before .before in
+    let b = c .before .before .before .before .before .before .before .before .before .before in
     let k = c .before .before .before .before .check in
     (refine-job (b .args .job .now) (b .args .sizing .now) (b .args .place) (k .result .number) (k .ensures .number) (λ e. omega arith), omega arith)
 
 sizing-number-requires : tie.Need-sizing-number-requires
 sizing-number-requires c κs =
-    let b = c .before .before .before .before .before .before .before .before .before .before in
+    let b = c .before .before .before .before .before .before .before .before .before .before .before in
     let k = c .before .before .before .before .before .check in
     let z : k .result .number ≡ 0 = omega arith in
     k .ensures .passed z .held
 
 returns-2 : tie.Need-returns-2
 returns-2 c =
-    let b = c .before .before .before .before .before .before .before .before .before .before .before .before in
+    let b = c .before .before .before .before .before .before .before .before .before .before .before .before .before in
     let k = c .before .before .before .before .before .before .before .check in
     let z : k .result .number ≡ 0 = omega arith in (
       refine-sizing (b .args .job .now) (b .args .sizing .now) (k .ensures .passed z) (sym (k .ensures .number) ∙ z) (b .args .place) (c .before .sizing-number .result) (c .before .sizing-number .ensures) (λ e. omega arith),
@@ -42,21 +42,21 @@ returns-2 c =
 
 add-places : tie.Need-add-places
 add-places c =
-    let b = c .before .before .before .before .before .before .before .before .before .before .before .before .before in
+    let b = c .before .before .before .before .before .before .before .before .before .before .before .before .before .before in
     let k = c .before .before .before .before .before .before .before .before .check in
     let z : k .result .number ≡ 0 = omega arith in
     omega (arith, k .ensures .passed z .fewStages, k .ensures .passed z .fewSegments)
 
 add-places-2 : tie.Need-add-places-2
 add-places-2 c =
-    let b = c .before .before .before .before .before .before .before .before .before .before .before .before .before .before in
+    let b = c .before .before .before .before .before .before .before .before .before .before .before .before .before .before .before in
     let k = c .before .before .before .before .before .before .before .before .before .check in
     let z : k .result .number ≡ 0 = omega arith in
     omega (arith, k .ensures .passed z .fewStages, k .ensures .passed z .fewSegments, k .ensures .passed z .fewRepeaters)
 
 returns-3 : tie.Need-returns-3
 returns-3 c =
-    let b = c .before .before .before .before .before .before .before .before .before .before .before .before .before .before .before in
+    let b = c .before .before .before .before .before .before .before .before .before .before .before .before .before .before .before .before in
     let k = c .before .before .before .before .before .before .before .before .before .before .check in
     let z : k .result .number ≡ 0 = omega arith in
     let y : c .before .before .before .before .sizing-number .result ≡ 0 = omega arith in
@@ -64,7 +64,7 @@ returns-3 c =
 
 slice-aggregate-held : tie.Need-slice-aggregate-held
 slice-aggregate-held c =
-    let b = c .before .before .before .before .before .before .before .before .before .before .before .before .before .before .before .before in
+    let b = c .before .before .before .before .before .before .before .before .before .before .before .before .before .before .before .before .before in
     let k = c .before .before .before .before .before .before .before .before .before .before .before .check in
     let z : k .result .number ≡ 0 = omega arith in
     let y : c .before .before .before .before .before .sizing-number .result ≡ 0 = omega arith in
@@ -72,19 +72,19 @@ slice-aggregate-held c =
 
 refine-at-requires : tie.Need-refine-at-requires
 refine-at-requires c κs =
-    let b = c .before .before .before .before .before .before .before .before .before .before .before .before .before .before .before .before in
-    let k = c .before .before .before .before .before .before .before .before .before .before .before .check in
+    let b = c .before .before .before .before .before .before .before .before .before .before .before .before .before .before .before .before .before .before in
+    let k = c .before .before .before .before .before .before .before .before .before .before .before .before .check in
     let z : k .result .number ≡ 0 = omega arith in
-    let y : c .before .before .before .before .before .sizing-number .result ≡ 0 = omega arith in
-    (k .ensures .passed z, (sizing-allowed (netBy (k .result .counts) (b .args .job .now)) (b .args .sizing .now) (sym (c .before .before .before .before .before .sizing-number .ensures) ∙ y), omega arith))
+    let y : c .before .before .before .before .before .before .sizing-number .result ≡ 0 = omega arith in
+    (k .ensures .passed z, (k .ensures .weighed z, (sizing-allowed (netBy (k .result .counts) (b .args .job .now)) (b .args .sizing .now) (sym (c .before .before .before .before .before .before .sizing-number .ensures) ∙ y), omega arith)))
 
 returns-4 : tie.Need-returns-4
 returns-4 c =
-    let b = c .before .before .before .before .before .before .before .before .before .before .before .before .before .before .before .before .before in
-    let k = c .before .before .before .before .before .before .before .before .before .before .before .before .check in
+    let b = c .before .before .before .before .before .before .before .before .before .before .before .before .before .before .before .before .before .before .before in
+    let k = c .before .before .before .before .before .before .before .before .before .before .before .before .before .check in
     let z : k .result .number ≡ 0 = omega arith in
-    let y : c .before .before .before .before .before .before .sizing-number .result ≡ 0 = omega arith in (
-      refine-answer (b .args .job .now) (b .args .sizing .now) (k .ensures .passed z) (sym (k .ensures .number) ∙ z) (b .args .place) (c .refine-at .result) (sym (c .before .before .before .before .before .before .sizing-number .ensures) ∙ y) (omega arith)
+    let y : c .before .before .before .before .before .before .before .sizing-number .result ≡ 0 = omega arith in (
+      refine-answer (b .args .job .now) (b .args .sizing .now) (k .ensures .passed z) (sym (k .ensures .number) ∙ z) (b .args .place) (c .refine-at .result) (sym (c .before .before .before .before .before .before .before .sizing-number .ensures) ∙ y) (omega arith)
           (c .refine-at .ensures),
       tt,
     )

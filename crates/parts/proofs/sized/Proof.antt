@@ -1,4 +1,5 @@
 -- `parts::sized` meets its contract: the sizing's width has its row.
+use mathlib.Core.Path.{_∙_}
 use native.Mathlib.Omega.{arith}
 use Rattle.stages.proofs.Drives.{width-held}
 use borrow.Author.Needs.{needs}
@@ -20,12 +21,13 @@ sink-requires c κs = search needs
 wire-at-requires : tie.Need-wire-at-requires
 wire-at-requires c κs =
     let b = c .before .before .before .before .before .before in
-    (b .pre .0 .checked .held, (b .pre .1, omega (arith, width-held (b .pre .0) (b .args .i) (b .pre .1))))
+    (b .pre .0 .checked .held, (b .pre .1 .1, omega (arith, width-held (b .pre .0) (b .args .i) (b .pre .1 .1))))
 
 returns : tie.Need-returns
 returns c =
+    let b = c .before .before .before .before .before .before .before in
     record {
-      weight = c .before .before .weight .ensures;
+      weight = c .before .before .weight .ensures ∙ b .pre .1 .0 .weighs (b .args .i) (b .pre .1 .1);
       sink = c .before .sink .ensures;
       wire = rw (c .before .before .before .index-at .ensures .0) at (c .wire-at .ensures);
     }

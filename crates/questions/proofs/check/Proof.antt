@@ -3,7 +3,7 @@
 use native.Mathlib.Omega.{arith}
 use borrow.Author.Tests.{not-false}
 use borrow.Author.Needs.{needs}
-use Rattle.questions.proofs.Numbers.{check-early, check-unlinked, check-linked}
+use Rattle.questions.proofs.Numbers.{weights-there, check-early, check-unlinked, check-linked}
 use Rattle.questions.proofs.check.Statement.{statement}
 use Rattle.questions.proofs.check.Tie as tie
 
@@ -34,12 +34,31 @@ returns-2 c =
     let nine = c .before .before .before .before .before .before .link .ensures .0 in
     check-unlinked (e .before .before .questions-from-1 .ensures) (e .if1 .left) nine (c .before .if2 .taken) _ (c .uncounted .ensures)
 
+add-places : tie.Need-add-places
+add-places c = let e = c .before .before .before .before .before .before .before .before .before .before in omega (arith, e .before .before .questions-from-1 .ensures .passes (e .if1 .left) .held .all)
+
+add-places-2 : tie.Need-add-places-2
+add-places-2 c = let e = c .before .before .before .before .before .before .before .before .before .before .before in omega (arith, e .before .before .questions-from-1 .ensures .passes (e .if1 .left) .held .all)
+
+add-n : tie.Need-add-n
+add-n c = let e = c .before .before .before .before .before .before .before .before .before .before .before .before in omega (arith, e .before .before .questions-from-1 .ensures .passes (e .if1 .left) .held .all)
+
+add-n-2 : tie.Need-add-n-2
+add-n-2 c = let e = c .before .before .before .before .before .before .before .before .before .before .before .before in omega (arith, e .before .before .questions-from-1 .ensures .passes (e .if1 .left) .held .all)
+
+sub-n : tie.Need-sub-n
+sub-n c =
+    let e = c .before .before .before .before .before .before .before .before .before .before .before .before .before in
+    let a = e .before .before .questions-from-1 .ensures in
+    omega (arith, a .records, a .passes (e .if1 .left) .filled)
+
 questions-from-10-requires : tie.Need-questions-from-10-requires
 questions-from-10-requires c κs =
-    let e = c .before .before .before .before .before .before .before .before .before .before in
-    let l = e .before .before .questions-from-1 .ensures .passes (e .if1 .left) in
-    let k = c .before .before .before .before .before .before .link .ensures .1 .0 (not-false _ (c .before .if2 .left)) in
-    (l .held, record { nodes = k .nodes; firsts = k .firsts })
+    let e = c .before .before .before .before .before .before .before .before .before .before .before .before .before .before .before in
+    let a = e .before .before .questions-from-1 .ensures in
+    let l = a .passes (e .if1 .left) in
+    let k = c .before .before .before .before .before .before .before .before .before .before .before .link .ensures .1 .0 (not-false _ (c .before .before .before .before .before .before .if2 .left)) in
+    ((l .held, l .few), (record { nodes = k .nodes; firsts = k .firsts }, (weights-there _ (l .counted) (omega (arith, a .records, l .filled)), c .before .before .before .before .before .before .before .before .before .before .before .before .before .before .before .before .before .before .before .before .before .pre .1)))
 
 same-length-3 : tie.Need-same-length-3
 same-length-3 c = search needs
@@ -49,10 +68,11 @@ same-length-4 c = search needs
 
 returns-3 : tie.Need-returns-3
 returns-3 c =
-    let e = c .before .before .before .before .before .before .before .before .before .before .before in
+    let e = c .before .before .before .before .before .before .before .before .before .before .before .before .before .before .before .before in
     let asked = e .before .before .questions-from-1 .ensures in
-    let l = c .before .before .before .before .before .before .before .link .ensures in
-    check-linked asked (e .if1 .left) (l .0) (c .before .before .if2 .left) _ (c .questions-from-10 .ensures) (l .1 .0)
+    let l = c .before .before .before .before .before .before .before .before .before .before .before .before .link .ensures in
+    let q = c .questions-from-10 .ensures in
+    check-linked asked (e .if1 .left) (l .0) (c .before .before .before .before .before .before .before .if2 .left) _ (q .0) (l .1 .0) (q .1)
 
 pub check-spec : {M : Type 1} → statement M
 check-spec =
@@ -65,6 +85,11 @@ check-spec =
     same-length
     same-length-2
     returns-2
+    add-places
+    add-places-2
+    add-n
+    add-n-2
+    sub-n
     questions-from-10-requires
     same-length-3
     same-length-4

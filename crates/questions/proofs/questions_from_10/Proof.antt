@@ -11,7 +11,7 @@ use Rattle.net.specs.Questions.{question10, question11}
 use Rattle.questions.specs.Check.{questionsFrom10}
 use Rattle.asked.proofs.Regroup.{question10-by}
 use Rattle.asked.proofs.Branches.{question11-by}
-use Rattle.questions.proofs.Numbers.{yes, no, none}
+use Rattle.questions.proofs.Numbers.{own-loaded, yes, no}
 use Rattle.questions.proofs.questions_from_10.Statement.{statement}
 use Rattle.questions.proofs.questions_from_10.Tie as tie
 
@@ -26,32 +26,35 @@ segments-fit-requires c κs = search needs
 
 -- what the loop over the segments says of questions 10 and 11
 abbrev counts : tie.After-segments-fit → Counts
-counts c = c .before .before .before .before .before .args .counts
+counts c = c .before .before .before .before .before .before .args .counts
 
 abbrev job : tie.After-segments-fit → List ℕ
-job c = c .before .before .before .before .before .args .job .now
+job c = c .before .before .before .before .before .before .args .job .now
 
 ten : (c : tie.After-segments-fit) → c .segments-fit .result .fields ≡ question10 (counts c) (job c)
 ten c =
-    let small = c .before .before .before .before .shared-slice-known .given in
+    let small = c .before .before .before .before .before .shared-slice-known .given in
     question10-by _ _ (λ i. omega (arith, small i)) (c .segments-fit .ensures .0)
 
 eleven : (c : tie.After-segments-fit) → not (c .segments-fit .result .fields) ≡ false → c .segments-fit .result .ends ≡ question11 (counts c) (job c)
-eleven c t = question11-by _ _ _ (c .before .before .before .before .before .pre .1) (c .segments-fit .ensures .1 (not-false _ t))
+eleven c t = question11-by _ _ _ (c .before .before .before .before .before .before .pre .1 .0) (c .segments-fit .ensures .1 .0 (not-false _ t))
 
 returns : tie.Need-returns
 unfolding questionsFrom10
-returns c = no _ _ (ten (c .before .before)) (c .if1 .taken)
+returns c = (no _ _ (ten (c .before .before)) (c .if1 .taken), λ z. absurd (omega (arith, z)))
 
 returns-2 : tie.Need-returns-2
 unfolding questionsFrom10
 returns-2 c =
     let a = c .before .before in
     let f = a .before .before in
-    yes _ _ (ten f) (a .if1 .left) (no _ _ (eleven f (a .if1 .left)) (c .if2 .taken))
+    (yes _ _ (ten f) (a .if1 .left) (no _ _ (eleven f (a .if1 .left)) (c .if2 .taken)), λ z. absurd (omega (arith, z)))
 
-question22-requires : tie.Need-question22-requires
-question22-requires c κs = search needs
+questions-from-22-requires : tie.Need-questions-from-22-requires
+questions-from-22-requires c κs =
+    let b = c .before .before .before .before .before .before .before .before .before .before .before in
+    let own = c .before .before .before .before .before .segments-fit .ensures .1 .1 (not-false _ (c .before .before .before .if1 .left)) in
+    (b .pre .0, (b .pre .1 .0, (b .pre .1 .1 .0, own-loaded own)))
 
 returns-3 : tie.Need-returns-3
 unfolding questionsFrom10
@@ -59,32 +62,8 @@ returns-3 c =
     let b = c .before .before in
     let a = b .before .before in
     let f = a .before .before in
-    yes _ _ (ten f) (a .if1 .left) (yes _ _ (eleven f (a .if1 .left)) (b .if2 .left) (no _ _ (c .before .question22 .ensures) (c .if3 .taken)))
-
-question23-requires : tie.Need-question23-requires
-question23-requires c κs = search needs
-
-returns-4 : tie.Need-returns-4
-unfolding questionsFrom10
-returns-4 c =
-    let d = c .before .before in
-    let b = d .before .before in
-    let a = b .before .before in
-    let f = a .before .before in
-    yes _ _ (ten f) (a .if1 .left)
-    (yes _ _ (eleven f (a .if1 .left)) (b .if2 .left)
-    (yes _ _ (d .before .question22 .ensures) (d .if3 .left) (no _ _ (c .before .question23 .ensures) (c .if4 .taken))))
-
-returns-5 : tie.Need-returns-5
-unfolding questionsFrom10
-returns-5 c =
-    let d = c .before .before in
-    let b = d .before .before in
-    let a = b .before .before in
-    let f = a .before .before in
-    yes _ _ (ten f) (a .if1 .left)
-    (yes _ _ (eleven f (a .if1 .left)) (b .if2 .left)
-    (yes _ _ (d .before .question22 .ensures) (d .if3 .left) (yes _ _ (c .before .question23 .ensures) (c .if4 .left) none)))
+    let l = c .questions-from-22 .ensures in
+    (yes _ _ (ten f) (a .if1 .left) (yes _ _ (eleven f (a .if1 .left)) (b .if2 .left) (l .0)), l .1)
 
 pub questions-from-10-spec : {M : Type 1} → statement M
 questions-from-10-spec =
@@ -95,8 +74,5 @@ questions-from-10-spec =
     segments-fit-requires
     returns
     returns-2
-    question22-requires
-    returns-3
-    question23-requires
-    returns-4
-    returns-5)
+    questions-from-22-requires
+    returns-3)

@@ -57,7 +57,7 @@ returns-5 c =
 questions-from-7-requires : tie.Need-questions-from-7-requires
 questions-from-7-requires c κs =
     let a = c .before .before .before .before .before .before in
-    some-counted (a .before .before .before .before .before .pre) (a .before .question3 .ensures) (a .if2 .left)
+    some-counted (a .before .before .before .before .before .pre .0) (a .before .question3 .ensures) (a .if2 .left)
 
 returns-6 : tie.Need-returns-6
 unfolding questionsFrom24

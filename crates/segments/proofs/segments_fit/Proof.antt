@@ -11,7 +11,8 @@ use Rattle.lattice.specs.Lists.{every}
 use Rattle.net.specs.declared.Counts.{Counts}
 use Rattle.net.specs.Job.{widthsOf}
 use Rattle.job.specs.Runs.{byteOf, wordOf}
-use Rattle.segments.specs.Tests.{segmentFits, sinkOrBranch}
+use Rattle.segments.specs.Tests.{segmentFits, sinkOrBranch, OwnWeights}
+use Rattle.segments.proofs.Own.{own-none, own-on}
 use Rattle.lattice.proofs.Every.{Going, begins, goes-on, stops, ends}
 use Rattle.segments.proofs.segments_fit.Statement.{statement}
 use Rattle.segments.proofs.segments_fit.Tie as tie
@@ -34,14 +35,14 @@ unfolding every
 one-asked f k d e = rw (add-one k) (ap₂ _&&_ d e)
 
 abbrev Inv-loop : tie.InvT-loop
-Inv-loop job counts first start count ends₀ k₀ ends k =
-    Going count (segmentFits job counts start) k × (ends ≡ every k (sinkOrBranch job first start count))
+Inv-loop job counts first start count weights₀ ends₀ k₀ weights ends k =
+    Going count (segmentFits job counts start) k × (ends ≡ every k (sinkOrBranch job first start count)) × OwnWeights job start k weights
 
 abbrev μ-loop : tie.MeasureT-loop
-μ-loop job counts first start count ends₀ k₀ ends k = count - k
+μ-loop job counts first start count weights₀ ends₀ k₀ weights ends k = count - k
 
 loop-holds : tie.Need-loop-holds Inv-loop μ-loop
-loop-holds c = (begins _ _, none-asked _)
+loop-holds c = (begins _ _, none-asked _, own-none (c .before .before .pre .1 .1))
 
 byte-of-requires : tie.Need-byte-of-requires Inv-loop μ-loop
 byte-of-requires c κs = omega arith
@@ -79,7 +80,13 @@ returns c =
     let i = c .before .before .before .before .before .before .before .before .before .before in
     let a = i .before .before .before .args in
     let fits = fits-by (a .job .now) (a .counts) (a .start) (i .loop .k) sink length capacitance weight lowest highest widths in
-    (stops (i .loop .inv .0) (omega arith) fits (c .if1 .taken), λ t. absurd (false≢true t))
+    (stops (i .loop .inv .0) (omega arith) fits (c .if1 .taken), (λ t. absurd (false≢true t), λ t. absurd (false≢true t)))
+
+cast-weights : tie.Need-cast-weights Inv-loop μ-loop
+cast-weights c = omega (arith, c .before .before .before .before .before .byte-of2 .ensures .1)
+
+element-write-weights : tie.Need-element-write-weights Inv-loop μ-loop
+element-write-weights c = omega arith
 
 add-branch : tie.Need-add-branch Inv-loop μ-loop
 add-branch c = omega arith
@@ -111,13 +118,14 @@ loop-again c =
     let fits = fits-by (a .job .now) (a .counts) (a .start) (i .loop .k) sink length capacitance weight lowest highest widths in (
       goes-on (i .loop .inv .0) (entered .loop-test .taken) fits (c .before .if1 .left),
       one-asked _ (i .loop .k) (ap₂ _||_ (ap (λ v. not (eqb v 0)) sink) refl) (i .loop .inv .1),
+      own-on (i .loop .inv .2) (omega arith) weight,
     )
 
 returns-2 : tie.Need-returns-2 Inv-loop μ-loop
 returns-2 c =
     let l = c .before .loop in
     let e = le-antisymm (l .inv .0 .within) (omega arith) in
-    (ends (l .inv .0) (omega arith), λ t. rw e at (l .inv .1))
+    (ends (l .inv .0) (omega arith), (λ t. rw e at (l .inv .1), λ t. rw e at (l .inv .2)))
 
 pub segments-fit-spec : {M : Type 1} → statement M
 segments-fit-spec =
@@ -135,6 +143,8 @@ segments-fit-spec =
     byte-of-requires-5
     widths-of-requires
     returns
+    cast-weights
+    element-write-weights
     add-branch
     mul-branch
     shared-slice-read-branch

@@ -86,7 +86,7 @@ bound-and-answer-requires c κs =
     let k = b .pre .passed z in
     let h : placesBy (b .args .checked .counts) ≤ 76 = omega (arith, k .fewStages, k .fewSegments, k .fewRepeaters) in
     let e = length-take-le {A = ℕ} (placesBy (b .args .checked .counts)) (replicate 76 0) h in
-    (k, ((e, e), omega arith))
+    (k, (b .pre .weighed z, ((e, e), omega arith)))
 
 same-length : tie.Need-same-length
 same-length c = search needs

@@ -12,25 +12,25 @@ weigh-requires c κs =
     let b = c .before .before .before .before .before .before .before .before .before .before .before in
     let k = b .pre .0 in
     let a = c .before .before .before .arrange .ensures in
-    (k, (a .0, (a .1 .1, omega (arith, k .fewStages, k .fewSegments, k .fewRepeaters))))
+    (k, (b .pre .1 .0, (a .0, (a .1 .1, omega (arith, k .fewStages, k .fewSegments, k .fewRepeaters)))))
 
 bound-requires : tie.Need-bound-requires
 bound-requires c κs =
     let b = c .before .before .before .before .before .before .before .before .before .before .before .before .before .before .before .before in
     let a = c .before .before .before .before .before .before .before .before .arrange .ensures in
-    (b .pre .0, (a .0, (a .1 .1, (c .before .before .before .before .weigh .ensures, b .pre .1 .0 .0))))
+    (b .pre .0, (a .0, (a .1 .1, (c .before .before .before .before .weigh .ensures, b .pre .1 .1 .0 .0))))
 
 bound-requires-2 : tie.Need-bound-requires-2
 bound-requires-2 c κs =
     let b = c .before .before .before .before .before .before .before .before .before .before .before .before .before .before .before .before .before .before .before .before .before .before .before in
     let a = c .before .before .before .before .before .before .before .before .before .before .before .before .before .before .before .arrange .ensures in
-    (b .pre .0, (a .0, (a .1 .1, (c .before .before .before .before .before .before .before .before .before .before .before .weigh .ensures, b .pre .1 .0 .1))))
+    (b .pre .0, (a .0, (a .1 .1, (c .before .before .before .before .before .before .before .before .before .before .before .weigh .ensures, b .pre .1 .1 .0 .1))))
 
 answer-requires : tie.Need-answer-requires
 answer-requires c κs =
     let b = c .before .before .before .before .before .before .before .before .before .before .before .before .before .before .before .before .before .before .before .before .before .before .before .before .before .before .before .before .before .before .before .before .before in
     let a = c .before .before .before .before .before .before .before .before .before .before .before .before .before .before .before .before .before .before .before .before .before .before .before .before .before .arrange .ensures in
-    (b .pre .0, (a .0, (a .1 .0, (a .1 .1, (c .before .before .before .before .before .before .before .before .before .before .before .before .before .before .before .before .before .before .before .before .before .weigh .ensures, (record { isLower = c .before .before .before .before .before .before .before .before .before .before .before .before .before .before .before .before .bound .ensures; isUpper = c .before .before .before .before .before .before .before .before .before .bound2 .ensures }, b .pre .1 .1))))))
+    (b .pre .0, (a .0, (a .1 .0, (a .1 .1, (c .before .before .before .before .before .before .before .before .before .before .before .before .before .before .before .before .before .before .before .before .before .weigh .ensures, (record { isLower = c .before .before .before .before .before .before .before .before .before .before .before .before .before .before .before .before .bound .ensures; isUpper = c .before .before .before .before .before .before .before .before .before .bound2 .ensures }, b .pre .1 .1 .1))))))
 
 same-length : tie.Need-same-length
 same-length c = search needs

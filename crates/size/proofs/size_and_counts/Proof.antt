@@ -22,7 +22,7 @@ same-length c = search needs
 returns : tie.Need-returns
 returns c =
     let a = c .before .before .answer-checked .ensures in
-    let k = c .before .before .before .before .before .before .before .check .ensures in
+    let k = c .before .before .before .before .before .before .before .before .check .ensures in
     (a, λ e. k .passed (k .number ∙ e) .counted)
 
 pub size-and-counts-spec : {M : Type 1} → statement M

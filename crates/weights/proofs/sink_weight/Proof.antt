@@ -21,7 +21,7 @@ weight-requires : tie.Need-weight-requires
 weight-requires c κs =
     let b = c .before .before .before .before in
     let w = wire-range (b .args .counts) (b .args .p) (sym (c .before .before .is-driver .ensures) ∙ c .before .if1 .left) in
-    (b .pre .0 .held, omega arith)
+    omega (arith, b .pre .0 .fewSegments)
 
 returns-2 : tie.Need-returns-2
 returns-2 c =
@@ -29,7 +29,7 @@ returns-2 c =
     let d = (sym (c .before .before .before .is-driver .ensures) ∙ c .before .before .if1 .left) in
     let w = wire-range (b .args .counts) (b .args .p) d in
     let n = netBy (b .args .counts) (b .args .job .now) in
-    let e = c .weight .ensures in
+    let e = c .weight .ensures ∙ b .pre .1 .0 .weighs (b .args .p - b .args .counts .stages) (omega arith) in
     (e ∙ sym (by-segment (b .args .counts) (b .args .job .now) (b .args .p) d (λ s. 0) (n .weight) (λ r. 0)), omega (arith, e, b .pre .0 .weights (b .args .p - b .args .counts .stages) (omega arith)))
 
 pub sink-weight-spec : {M : Type 1} → statement M

@@ -7,17 +7,17 @@ use Rattle.net.specs.Job.{placesBy}
 use Rattle.lattice.specs.Lists.{at}
 use Rattle.net.proofs.InOrder.{placed}
 use Rattle.place.proofs.Steps.{place-at}
-use Rattle.weights.specs.Sinks.{sinkWeight}
+use Rattle.weights.specs.Sinks.{sinkWeightAt}
 use Rattle.weights.proofs.Weighing.{Weighing, weighing-start, driven-few, gathered-few, weighing-step}
 use borrow.Author.Needs.{needs}
 use Rattle.weights.proofs.weigh.Statement.{statement}
 use Rattle.weights.proofs.weigh.Tie as tie
 
 abbrev Inv-loop : tie.InvT-loop
-Inv-loop job counts order hangs weights₀ gathered₀ t₀ weights gathered t = Weighing counts job t weights gathered × (t ≤ placesBy counts)
+Inv-loop job counts sinks order hangs weights₀ gathered₀ t₀ weights gathered t = Weighing counts job t weights gathered × (t ≤ placesBy counts)
 
 abbrev μ-loop : tie.MeasureT-loop
-μ-loop job counts order hangs weights₀ gathered₀ t₀ weights gathered t = t
+μ-loop job counts sinks order hangs weights₀ gathered₀ t₀ weights gathered t = t
 
 add-t : tie.Need-add-t Inv-loop μ-loop
 add-t c = let k = c .before .before .pre .0 in omega (arith, k .fewStages, k .fewSegments)
@@ -29,7 +29,7 @@ loop-holds : tie.Need-loop-holds Inv-loop μ-loop
 loop-holds c =
     let b = c .before .before .before in
     let k = b .pre .0 in
-    (weighing-start (b .args .counts) (b .args .job .now) (b .args .weights .now) (replicate 77 0) (b .pre .1 .1 .1) (omega (arith, k .fewStages, k .fewSegments, k .fewRepeaters, length-replicate {A = ℕ} 77 0)) (λ r h. getD-replicate {A = ℕ} 77 r 0 0 (omega (arith, k .fewStages, k .fewSegments, k .fewRepeaters))), omega arith)
+    (weighing-start (b .args .counts) (b .args .job .now) (b .args .weights .now) (replicate 77 0) (b .pre .1 .1 .1 .1) (omega (arith, k .fewStages, k .fewSegments, k .fewRepeaters, length-replicate {A = ℕ} 77 0)) (λ r h. getD-replicate {A = ℕ} 77 r 0 0 (omega (arith, k .fewStages, k .fewSegments, k .fewRepeaters))), omega arith)
 
 sub-t : tie.Need-sub-t Inv-loop μ-loop
 sub-t c = search needs
@@ -59,7 +59,7 @@ sink-weight-requires c κs =
     let l = c .before .before .loop in
     let t = l .t - 1 in
     let h : t < placesBy (b .args .counts) = omega (arith, l .inv .1, c .before .loop-test .taken) in
-    (k, place-at k (b .pre .1 .0) t h)
+    (k, (b .pre .1 .0, place-at k (b .pre .1 .1 .0) t h))
 
 add-driven : tie.Need-add-driven Inv-loop μ-loop
 add-driven c =
@@ -98,7 +98,7 @@ add-driven-2 c =
     let e : l .t ≡ suc t = omega (arith, c .before .before .loop-test .taken) in
     let i = rw e at (l .inv .0) in
     let z : t + 1 ≡ suc t = omega arith in
-    let w = c .sink-weight .ensures .0 ∙ ap (sinkWeight (b .args .counts) (b .args .job .now)) (b .pre .1 .0 .held t h) in
+    let w = c .sink-weight .ensures .0 ∙ ap (sinkWeightAt (b .args .counts) (b .args .job .now)) (b .pre .1 .1 .0 .held t h) in
     omega (arith, rw (← z) at (driven-few k t h (l .weights) (l .gathered) i _ w))
 
 own-weight-requires : tie.Need-own-weight-requires Inv-loop μ-loop
@@ -111,7 +111,7 @@ own-weight-requires c κs =
     let e : l .t ≡ suc t = omega (arith, c .before .before .loop-test .taken) in
     let i = rw e at (l .inv .0) in
     let z : t + 1 ≡ suc t = omega arith in
-    let w = c .sink-weight .ensures .0 ∙ ap (sinkWeight (b .args .counts) (b .args .job .now)) (b .pre .1 .0 .held t h) in
+    let w = c .sink-weight .ensures .0 ∙ ap (sinkWeightAt (b .args .counts) (b .args .job .now)) (b .pre .1 .1 .0 .held t h) in
     (k .fewStages, k .fewSegments, rw z (driven-few k t h (l .weights) (l .gathered) i _ w))
 
 mul-weights : tie.Need-mul-weights Inv-loop μ-loop
@@ -157,7 +157,7 @@ mul-gathered c =
     let l = c .before .before .before .before .before .loop in
     let t = l .t - 1 in
     let h : t < placesBy (b .args .counts) = omega (arith, l .inv .1, c .before .before .before .before .loop-test .taken) in
-    let g = b .pre .1 .1 .0 .held t h in
+    let g = b .pre .1 .1 .1 .0 .held t h in
     let f = placed k .falls t h in
     omega (arith, l .inv .1, k .fewStages, k .fewSegments, k .fewRepeaters)
 
@@ -168,7 +168,7 @@ array-read-gathered c =
     let l = c .before .before .before .before .before .loop in
     let t = l .t - 1 in
     let h : t < placesBy (b .args .counts) = omega (arith, l .inv .1, c .before .before .before .before .loop-test .taken) in
-    let g = b .pre .1 .1 .0 .held t h in
+    let g = b .pre .1 .1 .1 .0 .held t h in
     let f = placed k .falls t h in
     omega (arith, l .inv .1, k .fewStages, k .fewSegments, k .fewRepeaters)
 
@@ -182,9 +182,9 @@ add-gathered c =
     let e : l .t ≡ suc t = omega (arith, c .before .before .before .before .loop-test .taken) in
     let i = rw e at (l .inv .0) in
     let z : t + 1 ≡ suc t = omega arith in
-    let g = b .pre .1 .1 .0 .held t h in
+    let g = b .pre .1 .1 .1 .0 .held t h in
     let f = placed k .falls t h in
-    let w = c .before .before .sink-weight .ensures .0 ∙ ap (sinkWeight (b .args .counts) (b .args .job .now)) (b .pre .1 .0 .held t h) in
+    let w = c .before .before .sink-weight .ensures .0 ∙ ap (sinkWeightAt (b .args .counts) (b .args .job .now)) (b .pre .1 .1 .0 .held t h) in
     omega (arith, rw (← z) at (driven-few k t h (l .weights) (l .gathered) i _ w), gathered-few k t h (l .weights) (l .gathered) i (at (b .args .hangs .now) t) (omega arith))
 
 array-write-gathered : tie.Need-array-write-gathered Inv-loop μ-loop
@@ -194,7 +194,7 @@ array-write-gathered c =
     let l = c .before .before .before .before .before .loop in
     let t = l .t - 1 in
     let h : t < placesBy (b .args .counts) = omega (arith, l .inv .1, c .before .before .before .before .loop-test .taken) in
-    let g = b .pre .1 .1 .0 .held t h in
+    let g = b .pre .1 .1 .1 .0 .held t h in
     let f = placed k .falls t h in
     omega (arith, l .inv .1, k .fewStages, k .fewSegments, k .fewRepeaters)
 
@@ -211,8 +211,8 @@ loop-again c =
     let e : l .t ≡ suc t = omega (arith, c .before .before .before .before .loop-test .taken) in
     let i = rw e at (l .inv .0) in
     let z : t + 1 ≡ suc t = omega arith in
-    let g = b .pre .1 .1 .0 .held t h in (
-      rw (z, g) (weighing-step k t h (l .weights) (l .gathered) i _ _ _ _ (b .pre .1 .0 .held t h) (c .before .before .sink-weight .ensures .0) (rw z at (c .before .own-weight .ensures)) refl),
+    let g = b .pre .1 .1 .1 .0 .held t h in (
+      rw (z, g) (weighing-step k t h (l .weights) (l .gathered) i _ _ _ _ (b .pre .1 .1 .0 .held t h) (c .before .before .sink-weight .ensures .0) (rw z at (c .before .own-weight .ensures)) refl),
       omega (arith, l .inv .1),
     )
 

@@ -1,0 +1,5 @@
+pub mod Whole
+pub mod Exact
+pub mod Counts
+pub mod Fractions
+pub mod Loading
