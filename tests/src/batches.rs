@@ -1,19 +1,20 @@
 //! Batches of calls: for small jobs, damaged jobs, jobs of every length, jobs at the limits, large jobs and jobs around the
-//! largest room; and of each the like for jobs with repeaters.
+//! largest room; and of each the like for jobs with repeaters and for jobs with weights.
 
 use std::collections::BTreeMap;
 
 use crate::calls::{Call, expected};
 use crate::damage::damage;
+use crate::fractions::MINUS_ZERO;
 use crate::generate::{
-    allowed_sizing, any_place, any_reply, any_sizing, large_plan, large_repeater_plan, marked, repeater_plan, roomy_plan,
-    small_plan, tied_star, weightless_plan, weightless_repeaters,
+    allowed_sizing, any_place, any_reply, any_sizing, large_plan, large_repeater_plan, large_weighed_plan, marked, move_weights,
+    repeater_plan, roomy_plan, small_plan, tied_star, weighed_plan, weightless_plan, weightless_repeaters,
 };
-use crate::limits::{Limit, largest_plans, limits, repeater_faults, repeater_limits};
-use crate::plan::Plan;
+use crate::limits::{Limit, largest_plans, limits, repeater_faults, repeater_limits, weight_faults, weight_limits};
+use crate::plan::{Plan, PlannedWeight, weight_record};
 use crate::questions::{
-    MOST_PLACES, MOST_UNREPEATED, Net, fails_in_layer_1, first_no, layer_faults, range_faults, read, site_faults,
-    stray_sink_alone,
+    self, MOST_PLACES, MOST_UNREPEATED, Net, fails_in_layer_1, first_no, fraction_faults, layer_faults, range_faults, read,
+    site_faults, stray_sink_alone,
 };
 use crate::random::Random;
 use crate::reference::{Refined, measure, refine};
@@ -51,15 +52,15 @@ pub const LAYER_1: &str = "layer 1 alone";
 /// A call on a job that passes and has segments on both layers.
 pub const BOTH_LAYERS: &str = "segments on both layers";
 
-/// A call that is refused with 22 or 23 for one of their ways alone: a segment that is missing or has no branches, segment numbers
-/// that stay or fall; a range that is empty or beyond the table.
-pub const REPEATER_FAULTS: [&str; 6] = [
-    "22 for a missing segment",
-    "22 for a segment without branches",
-    "22 for a segment twice",
-    "22 for segments that fall",
-    "23 for an empty range",
-    "23 for a range beyond the table",
+/// A call that is refused with 22 or 23 for one of their ways alone, each with its number: a segment that is missing or has no
+/// branches, segment numbers that stay or fall; a range that is empty or beyond the table.
+pub const REPEATER_FAULTS: [(u64, &str); 6] = [
+    (22, "22 for a missing segment"),
+    (22, "22 for a segment without branches"),
+    (22, "22 for a segment twice"),
+    (22, "22 for segments that fall"),
+    (23, "23 for an empty range"),
+    (23, "23 for a range beyond the table"),
 ];
 
 /// A call that is refused with a number on a job that fails 22 or 23 too, whichever is asked later.
@@ -77,6 +78,35 @@ pub const WEIGHTLESS_BEHIND: &str = "no weight behind a repeater";
 pub const ONE_BEST_REPEATER: &str = "refine at a repeater with one best index";
 pub const TIE_AT_REPEATER: &str = "refine at a repeater with a tie";
 pub const TIE_IN_CHAIN: &str = "refine at a repeater with a tie, another on its path";
+
+/// A call that is refused with 20 or 21 for one of their ways alone, each with its number: a segment that is missing or has no sink,
+/// a form above 2, a whole number above 255; a fraction in each way in which one fails.
+pub const WEIGHT_FAULTS: [(u64, &str); 11] = [
+    (20, "20 for a missing segment"),
+    (20, "20 for a segment without a sink"),
+    (20, "20 for a form"),
+    (20, "20 for a whole number"),
+    (21, "21 for what is not a number"),
+    (21, "21 for what is infinite"),
+    (21, "21 for what is negative"),
+    (21, "21 for a subnormal"),
+    (21, "21 for 1 and above"),
+    (21, "21 for what is next to a count"),
+    (21, "21 for what is no count"),
+];
+
+/// A call that is refused with a number on a job that fails 20 or 21 too, whichever is asked later.
+pub const BEFORE_WEIGHT_FAULTS: &str = "a weight's fault behind another number";
+
+/// A call on a job that passes and has a weight of a form: absent, a whole number, a fraction; minus zero; a count other than the
+/// own byte; weights and repeaters; 64 weights.
+pub const ABSENT: &str = "an absent weight";
+pub const WHOLE: &str = "a whole weight";
+pub const FRACTION: &str = "a fraction";
+pub const MINUS_ZERO_MET: &str = "minus zero";
+pub const OTHER_COUNT: &str = "a count other than the own byte";
+pub const WEIGHED_REPEATERS: &str = "weights and repeaters";
+pub const ALL_WEIGHED: &str = "64 weights";
 
 /// How often each operation returned each number, and what its call met.
 pub type Counts = BTreeMap<(&'static str, u64), usize>;
@@ -148,27 +178,70 @@ fn met_in_repeaters(call: &Call) -> Vec<&'static str> {
             }
             met
         }
-        number if number > 1 && tells(call) => met_in_faults(job, number).into_iter().collect(),
+        number if number > 1 && tells(call) => {
+            let faults = [&site_faults(job)[..], &range_faults(job)].concat();
+            met_in_faults(&REPEATER_FAULTS, &faults, number, BEFORE_FAULTS)
+        }
         _ => Vec::new(),
     }
 }
 
-/// What a job of whole records that is refused with a number meets in the faults of its repeaters: one way alone, or a fault of a
-/// question behind that number's.
-fn met_in_faults(job: &[u8], number: u64) -> Option<&'static str> {
-    let (sites, ranges) = (site_faults(job), range_faults(job));
-    let faults = [&sites[..], &ranges].concat();
-    let behind = match number {
-        23 => &[],
-        22 => &faults[sites.len()..],
-        _ => &faults[..],
-    };
-    if behind.contains(&true) {
-        return Some(BEFORE_FAULTS);
+/// What a job of whole records that is refused with a number meets in faults, each in its way: one way alone, or, called `behind`,
+/// one of a question behind that number's.
+fn met_in_faults(ways: &[(u64, &'static str)], faults: &[bool], number: u64, behind: &'static str) -> Vec<&'static str> {
+    let found = ways.iter().zip(faults).filter(|(_, fault)| **fault);
+    let found: Vec<(u64, &'static str)> = found.map(|(way, _)| *way).collect();
+    match found[..] {
+        _ if found.iter().any(|(question, _)| *question != number) => vec![behind],
+        [(_, alone)] => vec![alone],
+        _ => Vec::new(),
     }
-    let alone = faults.iter().filter(|&&fault| fault).count() == 1;
-    let way = faults.iter().position(|&fault| fault)?;
-    alone.then_some(REPEATER_FAULTS[way])
+}
+
+/// What a call meets in the weights of its job: their forms and counts, or, of a call that tells its number, their faults.
+fn met_in_weights(call: &Call) -> Vec<&'static str> {
+    let job = job_of(call);
+    match first_no(job) {
+        0 => met_in_counts(job),
+        number if number > 1 && tells(call) => {
+            let faults = [&questions::weight_faults(job)[..], &fraction_faults(job)].concat();
+            met_in_faults(&WEIGHT_FAULTS, &faults, number, BEFORE_WEIGHT_FAULTS)
+        }
+        _ => Vec::new(),
+    }
+}
+
+/// What a call meets in the weights of a job that passes, whichever operation it is of.
+fn met_in_counts(job: &[u8]) -> Vec<&'static str> {
+    let net = read(job).expect("a job that passes");
+    let of_kind = |kind: u8| job.chunks(16).filter(move |record| record[0] == kind);
+    let weights = || of_kind(6);
+    let sinks = net
+        .segments
+        .iter()
+        .map(|segment| segment.sink.as_ref().map(|sink| sink.weight));
+    let own = of_kind(4).map(|record| u64::from(record[12]));
+    let all = [
+        (weights().any(|record| record[2] == 0), ABSENT),
+        (weights().any(|record| record[2] == 1), WHOLE),
+        (weights().any(|record| record[2] == 2), FRACTION),
+        (
+            weights().any(|record| record[2] == 2 && record[8..] == MINUS_ZERO.to_le_bytes()),
+            MINUS_ZERO_MET,
+        ),
+        (
+            sinks.zip(own).any(|(sink, own)| sink.is_some_and(|sink| sink != own)),
+            OTHER_COUNT,
+        ),
+        (weights().count() > 0 && !net.sites.is_empty(), WEIGHED_REPEATERS),
+        (weights().count() == 64, ALL_WEIGHED),
+    ];
+    which(&all)
+}
+
+/// The names of what is met.
+fn which(all: &[(bool, &'static str)]) -> Vec<&'static str> {
+    all.iter().filter(|(met, _)| *met).map(|(_, name)| *name).collect()
 }
 
 /// The weight of the sinks behind a repeater.
@@ -202,7 +275,7 @@ fn met_behind(net: &Net) -> Vec<&'static str> {
             WEIGHTLESS_BEHIND,
         ),
     ];
-    all.into_iter().filter(|(met, _)| *met).map(|(_, name)| name).collect()
+    which(&all)
 }
 
 /// What a refine meets that is answered at the place of a repeater which has several indices and weights behind it.
@@ -251,7 +324,7 @@ fn met_at(job: &[u8], sizing: &[u8], place: usize) -> Option<&'static str> {
 /// Counts a call that has a number, by its operation and by what it meets.
 pub fn count(counts: &mut Counts, call: &Call, number: u64) {
     let met = [Some(operation(call)), met(call), met_in_layers(call)].into_iter().flatten();
-    for name in met.chain(met_in_repeaters(call)) {
+    for name in met.chain(met_in_repeaters(call)).chain(met_in_weights(call)) {
         *counts.entry((name, number)).or_default() += 1;
     }
 }
@@ -339,6 +412,12 @@ pub fn repeater_calls(random: &mut Random, most: u128) -> Vec<Call> {
     calls
 }
 
+/// The calls for one small job with weights.
+pub fn weighed_calls(random: &mut Random, most: u128) -> Vec<Call> {
+    let plan = weighed_plan(random, most);
+    calls_of(random, &plan)
+}
+
 /// Some calls of each operation, for the job of a plan.
 fn calls_of(random: &mut Random, plan: &Plan) -> Vec<Call> {
     let job = plan.bytes();
@@ -366,6 +445,12 @@ pub fn damaged_repeater_calls(random: &mut Random, most: u128) -> Vec<Call> {
     calls_of_damaged(random, &plan)
 }
 
+/// The calls for one damaged job with weights.
+pub fn damaged_weighed_calls(random: &mut Random, most: u128) -> Vec<Call> {
+    let plan = weighed_plan(random, most);
+    calls_of_damaged(random, &plan)
+}
+
 /// One call of each operation, for the job of a plan, damaged.
 fn calls_of_damaged(random: &mut Random, plan: &Plan) -> Vec<Call> {
     let mut job = plan.bytes();
@@ -373,13 +458,14 @@ fn calls_of_damaged(random: &mut Random, plan: &Plan) -> Vec<Call> {
     one_of_each(random, &job, plan)
 }
 
-/// The calls for every length of a worked job, of the clock net and of jobs with repeaters, one of each operation: cut off, or with
-/// up to two records more.
+/// The calls for every length of a worked job, of the clock net, of jobs with repeaters and of jobs with weights, one of each
+/// operation: cut off, or with up to two records more.
 pub fn length_calls() -> Vec<Call> {
     let mut random = Random::new(15);
     let mut calls = Vec::new();
     let named = worked::named().into_iter().map(|(_, plan)| plan);
-    for plan in named.chain([worked::clock()]).chain(worked::with_repeaters()) {
+    let behind = worked::with_repeaters().into_iter().chain(worked::with_weights());
+    for plan in named.chain([worked::clock()]).chain(behind) {
         let mut longest = plan.bytes();
         let last = longest[longest.len() - 16..].to_vec();
         longest.extend([&last[..], &last].concat());
@@ -399,6 +485,12 @@ pub fn large_calls(random: &mut Random) -> Vec<Call> {
 /// The calls for one job of many segments with repeaters.
 pub fn large_repeater_calls(random: &mut Random) -> Vec<Call> {
     let plan = large_repeater_plan(random);
+    calls_of_large(random, &plan, MOST_PLACES)
+}
+
+/// The calls for one job of many segments with weights.
+pub fn large_weighed_calls(random: &mut Random) -> Vec<Call> {
+    let plan = large_weighed_plan(random);
     calls_of_large(random, &plan, MOST_PLACES)
 }
 
@@ -429,6 +521,11 @@ pub fn limit_calls() -> Vec<Call> {
 /// The calls for every job with repeaters at or just beyond a limit.
 pub fn repeater_limit_calls() -> Vec<Call> {
     calls_at(Random::new(16), repeater_limits(), MOST_PLACES, 10)
+}
+
+/// The calls for every job with weights at or just beyond a limit.
+pub fn weight_limit_calls() -> Vec<Call> {
+    calls_at(Random::new(19), weight_limits(), MOST_PLACES, 5)
 }
 
 /// One call of each operation for each of a list of jobs: sizings and buffers have room for more than so many places, and refine
@@ -471,9 +568,27 @@ pub fn fault_calls() -> Vec<Call> {
     let mut random = Random::new(17);
     let roomy =
         [[8, 0, 15], [7, 0, 15], [5, 0, 15], [4, 0, 15], [6, 1, 0], [6, 0, 16]].map(|repeater| roomy_with(&mut random, repeater));
-    let jobs = repeater_faults().into_iter().map(|limit| limit.job).chain(roomy);
+    calls_of_faults(repeater_faults(), &roomy)
+}
+
+/// The same for jobs that 20 or 21 refuses: eight segments have room, so segment 8 is missing.
+pub fn weight_fault_calls() -> Vec<Call> {
+    let mut random = Random::new(20);
+    let roomy = [
+        (8, PlannedWeight::Absent),
+        (0, PlannedWeight::Whole(256)),
+        (7, PlannedWeight::Fraction(1)),
+        (3, PlannedWeight::Fraction(u64::MAX)),
+    ]
+    .map(|(segment, weight)| [roomy_with(&mut random, [6, 0, 15]), weight_record(segment, weight)].concat());
+    calls_of_faults(weight_faults(), &roomy)
+}
+
+/// The calls for jobs that a fault refuses, in which every operation's own questions refuse too, or do not.
+fn calls_of_faults(faults: Vec<Limit>, roomy: &[Vec<u8>]) -> Vec<Call> {
+    let jobs = faults.into_iter().map(|limit| limit.job).chain(roomy.iter().cloned());
     jobs.flat_map(|job| {
-        let places = job.chunks(16).filter(|record| record[0] >= 3).count();
+        let places = job.chunks(16).filter(|record| (3..=5).contains(&record[0])).count();
         let sizings = [vec![0; places], vec![0; places - 1], vec![255; places], Vec::new()];
         let with_sizing = |sizing: &Vec<u8>| {
             let mut calls = vec![Call::Measure {
@@ -529,6 +644,18 @@ pub fn largest_calls() -> Vec<Call> {
     calls
 }
 
+/// The calls for some of the jobs of the largest size and figures, with a weight for each of the 64 sinks.
+pub fn largest_weighed_calls() -> Vec<Call> {
+    let mut random = Random::new(41);
+    let mut calls = Vec::new();
+    for (_, mut plan) in largest_plans().into_iter().step_by(7) {
+        move_weights(&mut random, &mut plan);
+        calls.push(a_roomy_size(&plan.bytes(), MOST_PLACES));
+        calls.extend(one_of_each(&mut random, &plan.bytes(), &plan));
+    }
+    calls
+}
+
 /// Counts of indices at free stages and free segments, with room at, just below and just above 65,536.
 const ROOMS: [(&[u8], &[u8]); 8] = [
     (&[], &[4, 4, 4, 4, 4, 4, 4, 4]),
@@ -573,6 +700,19 @@ pub fn repeater_room_calls() -> Vec<Call> {
         .iter()
         .map(|(stages, segments, repeaters)| weightless_repeaters(&mut random, stages, segments, repeaters))
         .collect();
+    calls_of_room(random, &plans, MOST_PLACES)
+}
+
+/// The calls for jobs around the largest room, with repeaters and without, whose weights are in records; and for the clock net with
+/// its weights in records.
+pub fn weighed_room_calls() -> Vec<Call> {
+    let mut random = Random::new(42);
+    let mut plans = vec![worked::weightless(8), worked::weightless(9), worked::clock()];
+    plans.extend(ROOMS.map(|(stages, segments)| weightless_plan(&mut random, stages, segments)));
+    plans.extend(
+        REPEATER_ROOMS.map(|(stages, segments, repeaters)| weightless_repeaters(&mut random, stages, segments, repeaters)),
+    );
+    plans.iter_mut().for_each(|plan| move_weights(&mut random, plan));
     calls_of_room(random, &plans, MOST_PLACES)
 }
 
@@ -653,5 +793,12 @@ pub fn layered_calls() -> Vec<Call> {
 pub fn repeated_calls() -> Vec<Call> {
     let mut calls: Vec<Call> = worked::with_repeaters().iter().flat_map(plan_calls).collect();
     calls.extend(worked::repeated().into_iter().map(|(job, _)| a_roomy_size(&job, MOST_PLACES)));
+    calls
+}
+
+/// The same for the worked jobs with weights.
+pub fn worked_weight_calls() -> Vec<Call> {
+    let mut calls: Vec<Call> = worked::with_weights().iter().flat_map(plan_calls).collect();
+    calls.extend(worked::weighed().into_iter().map(|(job, _)| a_roomy_size(&job, MOST_PLACES)));
     calls
 }

@@ -1,6 +1,8 @@
 //! Damages to a valid job, sorted by the question that they are meant to fail.
 #![allow(clippy::ptr_arg)] // one type for those that change the length and those that do not
 
+use crate::fractions::{any_near, any_refused};
+use crate::plan::{PlannedWeight, weight_record};
 use crate::questions::RECORD;
 use crate::random::Random;
 
@@ -51,7 +53,7 @@ fn empty(_: &mut Random, job: &mut Vec<u8>) {
     job.clear();
 }
 
-/// Gives a record a kind that there is not, or that of repeaters.
+/// Gives a record a kind that there is not, or that of repeaters or of weights.
 fn unknown_kind(random: &mut Random, job: &mut Vec<u8>) {
     let at = random.below(job.len() / RECORD) * RECORD;
     job[at] = random.pick(&[0, 5, 6, 8, 128, 255]);
@@ -77,17 +79,35 @@ fn swap_ends(_: &mut Random, job: &mut Vec<u8>) {
     swap(job, 0, last);
 }
 
-/// Swaps the last segment with a repeater, so that the kind falls.
-fn swap_with_repeater(random: &mut Random, job: &mut Vec<u8>) {
-    if let (Some(&segment), Some(repeater)) = (records(job, 4).last(), any_record(random, job, 5)) {
-        swap(job, segment, repeater);
+/// Swaps the last record of a kind with one of a later kind, so that the kind falls.
+fn swap_last(random: &mut Random, job: &mut [u8], kind: u8, later: u8) {
+    if let (Some(&last), Some(other)) = (records(job, kind).last(), any_record(random, job, later)) {
+        swap(job, last, other);
     }
 }
 
-/// Gives the last record the kind behind that of repeaters.
-fn kind_6_last(_: &mut Random, job: &mut Vec<u8>) {
+/// Swaps the last segment with a repeater.
+fn swap_with_repeater(random: &mut Random, job: &mut Vec<u8>) {
+    swap_last(random, job, 4, 5);
+}
+
+/// Swaps the last segment or the last repeater with a weight.
+fn swap_with_weight(random: &mut Random, job: &mut Vec<u8>) {
+    let kind = random.between(4, 5) as u8;
+    swap_last(random, job, kind, 6);
+}
+
+/// Gives the last record the kind of weights, which may then be one that passes.
+fn weight_last(_: &mut Random, job: &mut Vec<u8>) {
     let last = job.len() - RECORD;
     job[last] = 6;
+}
+
+/// Gives a weight a kind that there is not, or one that falls unless the weight is the first.
+fn other_kind_of_weight(random: &mut Random, job: &mut Vec<u8>) {
+    if let Some(at) = last_or_any(random, job, 6) {
+        job[at] = random.pick(&[0, 4, 5, 7, 7, 8, 255]);
+    }
 }
 
 /// Drops all records of a kind.
@@ -237,16 +257,34 @@ fn set_unnamed_of_repeater(random: &mut Random, job: &mut Vec<u8>) {
     set_unnamed_of(random, job, 5);
 }
 
+/// Sets an unnamed byte of a weight, by its form.
+fn set_unnamed_of_weight(random: &mut Random, job: &mut Vec<u8>) {
+    set_unnamed_of(random, job, 6);
+}
+
+/// The same after the form of a weight is put above 2.
+fn set_unnamed_of_bad_form(random: &mut Random, job: &mut Vec<u8>) {
+    bad_form(random, job);
+    set_unnamed_of(random, job, 6);
+}
+
+/// The unnamed bytes of a record of a kind and, of weights, a form; a segment has none.
+fn unnamed_bytes(kind: u8, form: u8) -> &'static [usize] {
+    match (kind, form) {
+        (1, _) => &[3, 12, 13, 14, 15],
+        (2, _) => &[2, 3],
+        (3, _) => &[4, 5, 6, 7, 8, 9, 10, 11, 12, 13, 14, 15],
+        (5, _) => &[5, 6, 7, 8, 9, 10, 11, 12, 13, 14, 15],
+        (_, 1) => &[3, 8, 9, 10, 11, 12, 13, 14, 15],
+        (_, 2) => &[3, 4, 5, 6, 7],
+        _ => &[3, 4, 5, 6, 7, 8, 9, 10, 11, 12, 13, 14, 15],
+    }
+}
+
 /// Sets an unnamed byte of a record of a kind.
 fn set_unnamed_of(random: &mut Random, job: &mut [u8], kind: u8) {
-    let unnamed: &[usize] = match kind {
-        1 => &[3, 12, 13, 14, 15],
-        2 => &[2, 3],
-        3 => &[4, 5, 6, 7, 8, 9, 10, 11, 12, 13, 14, 15],
-        _ => &[5, 6, 7, 8, 9, 10, 11, 12, 13, 14, 15],
-    };
     if let Some(at) = any_record(random, job, kind) {
-        job[at + random.pick(unnamed)] = random.between(1, 255) as u8;
+        job[at + random.pick(unnamed_bytes(kind, job[at + 2]))] = random.between(1, 255) as u8;
     }
 }
 
@@ -391,19 +429,24 @@ fn drop_last_sink(_: &mut Random, job: &mut Vec<u8>) {
     }
 }
 
-/// The position of a repeater: of the last one, so that the segments before it still rise up to it, or of any.
-fn a_repeater(random: &mut Random, job: &[u8]) -> Option<usize> {
+/// The position of a repeater or a weight: of the last one, so that the segments before it still rise up to it, or of any.
+fn last_or_any(random: &mut Random, job: &[u8], kind: u8) -> Option<usize> {
     let last = random.once_in(2);
-    let any = any_record(random, job, 5)?;
-    if last { records(job, 5).last().copied() } else { Some(any) }
+    let any = any_record(random, job, kind)?;
+    if last { records(job, kind).last().copied() } else { Some(any) }
+}
+
+/// Puts a segment that there is not into a byte of a repeater or a weight.
+fn name_missing(random: &mut Random, job: &mut [u8], kind: u8, byte: usize) {
+    let count = records(job, 4).len() as u8;
+    if let Some(at) = last_or_any(random, job, kind) {
+        job[at + byte] = random.pick(&[count, count, count.wrapping_add(1), 64, 255]);
+    }
 }
 
 /// Puts a repeater at a segment that there is not.
 fn missing_segment(random: &mut Random, job: &mut Vec<u8>) {
-    let count = records(job, 4).len() as u8;
-    if let Some(at) = a_repeater(random, job) {
-        job[at + 2] = random.pick(&[count, count, count.wrapping_add(1), 64, 255]);
-    }
+    name_missing(random, job, 5, 2);
 }
 
 /// Puts a repeater at a segment that has no branches.
@@ -413,7 +456,7 @@ fn segment_without_branches(random: &mut Random, job: &mut Vec<u8>) {
     let ends: Vec<u8> = (0..segments.len() as u8)
         .filter(|end| !parents.contains(&(end + 1)))
         .collect();
-    if let Some(at) = a_repeater(random, job)
+    if let Some(at) = last_or_any(random, job, 5)
         && !ends.is_empty()
     {
         job[at + 2] = random.pick(&ends);
@@ -437,12 +480,22 @@ fn move_branches(random: &mut Random, job: &mut Vec<u8>) {
 
 /// Puts a repeater at the segment of the one before it, or swaps the segments of the two.
 fn segments_not_rising(random: &mut Random, job: &mut Vec<u8>) {
-    let found = records(job, 5);
+    not_rising(random, job, 5, 2);
+}
+
+/// Gives a weight the segment of the one before it, or swaps the segments of the two.
+fn weights_not_rising(random: &mut Random, job: &mut Vec<u8>) {
+    not_rising(random, job, 6, 1);
+}
+
+/// Copies a byte from a record of a kind to the next, or swaps the two.
+fn not_rising(random: &mut Random, job: &mut [u8], kind: u8, byte: usize) {
+    let found = records(job, kind);
     if found.len() < 2 {
         return;
     }
     let pair = random.below(found.len() - 1);
-    let (first, second) = (found[pair] + 2, found[pair + 1] + 2);
+    let (first, second) = (found[pair] + byte, found[pair + 1] + byte);
     if random.once_in(2) {
         job[second] = job[first];
     } else {
@@ -458,6 +511,73 @@ fn bad_repeater_range(random: &mut Random, job: &mut Vec<u8>) {
     }
 }
 
+/// Repeats a weight.
+fn repeat_weight(random: &mut Random, job: &mut Vec<u8>) {
+    if let Some(at) = any_record(random, job, 6) {
+        job.splice(at..at, job[at..at + RECORD].to_vec());
+    }
+}
+
+/// Gives a weight to a segment that there is not.
+fn weight_of_missing(random: &mut Random, job: &mut Vec<u8>) {
+    name_missing(random, job, 6, 1);
+}
+
+/// Gives a weight to a segment that has no sink, between those of the segments around it.
+fn weight_without_sink(random: &mut Random, job: &mut Vec<u8>) {
+    let mut sinkless = records(job, 4);
+    sinkless.retain(|&at| job[at + 3] == 0);
+    if !sinkless.is_empty() {
+        let number = job[random.pick(&sinkless) + 1];
+        let weight = random.pick(&[PlannedWeight::Absent, PlannedWeight::Whole(1), PlannedWeight::Fraction(0)]);
+        let later = records(job, 6).into_iter().find(|&at| job[at + 1] > number);
+        let at = later.unwrap_or(job.len());
+        job.splice(at..at, weight_record(number, weight));
+    }
+}
+
+/// Takes the sink of a weight's segment away.
+fn drop_weighed_sink(random: &mut Random, job: &mut Vec<u8>) {
+    if let Some(at) = any_record(random, job, 6)
+        && let Some(&segment) = records(job, 4).get(usize::from(job[at + 1]))
+    {
+        clear_sink(job, segment);
+    }
+}
+
+/// Lets a weight be another one, of the same segment.
+fn replace_weight(random: &mut Random, job: &mut [u8], weight: PlannedWeight) -> Option<usize> {
+    let at = last_or_any(random, job, 6)?;
+    let record = weight_record(job[at + 1], weight);
+    job[at..at + RECORD].copy_from_slice(&record);
+    Some(at)
+}
+
+/// Puts the form of a weight above 2, the bytes behind it zero.
+fn bad_form(random: &mut Random, job: &mut Vec<u8>) {
+    if let Some(at) = replace_weight(random, job, PlannedWeight::Absent) {
+        job[at + 2] = random.pick(&[3, 4, 128, 255]);
+    }
+}
+
+/// Lets a weight be a whole number above 255.
+fn whole_beyond(random: &mut Random, job: &mut Vec<u8>) {
+    let number = random.pick(&[256, 257, 511, 1 << 16, 1 << 24, 1 << 31, u32::MAX]);
+    replace_weight(random, job, PlannedWeight::Whole(number));
+}
+
+/// Lets a weight be a fraction that is refused.
+fn bad_fraction(random: &mut Random, job: &mut Vec<u8>) {
+    let bits = any_refused(random);
+    replace_weight(random, job, PlannedWeight::Fraction(bits));
+}
+
+/// Lets a weight be a fraction that may have a count.
+fn some_fraction(random: &mut Random, job: &mut Vec<u8>) {
+    let bits = any_near(random);
+    replace_weight(random, job, PlannedWeight::Fraction(bits));
+}
+
 /// Changes one byte, whichever.
 fn any_byte(random: &mut Random, job: &mut Vec<u8>) {
     let at = random.below(job.len());
@@ -470,7 +590,12 @@ const ORDER: [usize; 13] = [0, 1, 2, 24, 3, 4, 5, 6, 7, 8, 9, 10, 11];
 /// The same with those of repeaters behind them, which come more often.
 const ORDER_WITH_REPEATERS: [usize; 18] = [0, 1, 2, 24, 3, 4, 5, 6, 7, 8, 9, 10, 11, 22, 22, 22, 23, 23];
 
-/// The damages meant for a question of a job, those of repeaters left out; for 0 any byte.
+/// The same with those of weights behind them, which come most often; those of repeaters find nothing where there are none.
+const ORDER_WITH_WEIGHTS: [usize; 30] = [
+    0, 1, 2, 24, 3, 4, 4, 5, 5, 6, 7, 8, 9, 10, 11, 22, 22, 22, 23, 23, 23, 20, 20, 20, 20, 20, 21, 21, 21, 21,
+];
+
+/// The damages meant for a question of a job, those of repeaters and of weights left out; for 0 any byte.
 fn damages_for(question: usize) -> &'static [Damage] {
     match question {
         1 => &[cut_end, add_part, empty],
@@ -493,7 +618,7 @@ fn damages_for(question: usize) -> &'static [Damage] {
 /// The damages of repeaters meant for a question of a job.
 fn repeater_damages_for(question: usize) -> &'static [Damage] {
     match question {
-        2 => &[kind_6_last, swap_with_repeater],
+        2 => &[weight_last, swap_with_repeater],
         3 => &[nine_repeaters],
         4 => &[change_repeater_number],
         5 => &[set_unnamed_of_repeater],
@@ -510,19 +635,44 @@ fn repeater_damages_for(question: usize) -> &'static [Damage] {
     }
 }
 
-/// Damages a valid job once, twice or three times, so that the order of the questions shows too. Where it has repeaters their
-/// damages are among them.
+/// The damages of weights meant for a question of a job.
+fn weight_damages_for(question: usize) -> &'static [Damage] {
+    match question {
+        2 => &[other_kind_of_weight, swap_with_weight],
+        4 => &[weights_not_rising, weights_not_rising, repeat_weight],
+        5 => &[set_unnamed_of_weight, set_unnamed_of_weight, set_unnamed_of_bad_form],
+        20 => &[
+            weight_of_missing,
+            weight_without_sink,
+            drop_weighed_sink,
+            bad_form,
+            whole_beyond,
+        ],
+        21 => &[bad_fraction, bad_fraction, some_fraction],
+        _ => &[],
+    }
+}
+
+/// Damages a valid job once, twice or three times, so that the order of the questions shows too. Where it has repeaters or weights
+/// their damages are among them.
 pub fn damage(random: &mut Random, job: &mut Vec<u8>) {
-    let repeated = !records(job, 5).is_empty();
-    let order = if repeated { &ORDER_WITH_REPEATERS[..] } else { &ORDER };
+    let [repeated, weighed] = [5, 6].map(|kind| !records(job, kind).is_empty());
+    let order = match (repeated, weighed) {
+        (_, true) => &ORDER_WITH_WEIGHTS[..],
+        (true, false) => &ORDER_WITH_REPEATERS,
+        (false, false) => &ORDER,
+    };
     let times = random.pick(&[1, 1, 2, 2, 3]);
     let mut questions: Vec<usize> = (0..times).map(|_| random.below(order.len())).collect();
     questions.sort_by(|a, b| b.cmp(a));
     for question in questions {
         if job.len() >= RECORD {
             let mut damages = damages_for(order[question]).to_vec();
-            if repeated {
+            if repeated || weighed {
                 damages.extend(repeater_damages_for(order[question]));
+            }
+            if weighed {
+                damages.extend(weight_damages_for(order[question]));
             }
             let kind = random.pick(&damages);
             kind(random, job);

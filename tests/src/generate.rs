@@ -1,6 +1,7 @@
 //! Generators of valid jobs, sizings, places and buffers.
 
-use crate::plan::{Plan, PlannedSegment, segment_with_sink, segment_without_sink};
+use crate::fractions::{MINUS_ZERO, fraction};
+use crate::plan::{Plan, PlannedSegment, PlannedWeight, segment_with_sink, segment_without_sink};
 use crate::questions::{MOST_PLACES, MOST_UNREPEATED};
 use crate::random::Random;
 
@@ -440,6 +441,67 @@ pub fn large_repeater_plan(random: &mut Random) -> Plan {
     let mut plan = large_plan(random);
     add_repeaters(random, &mut plan);
     plan
+}
+
+/// A weight that counts so much: a whole number or a fraction, for 0 now and then minus zero.
+fn weight_of(random: &mut Random, count: u8) -> PlannedWeight {
+    match random.below(3) {
+        0 => PlannedWeight::Whole(count.into()),
+        1 if count == 0 => PlannedWeight::Fraction(MINUS_ZERO),
+        _ => PlannedWeight::Fraction(fraction(count)),
+    }
+}
+
+/// Gives some sinks of a plan a weight record, often all and once in eight times none. It is absent, or it has a count. Once in three
+/// times that is the own byte's, which is changed then, so that every delay stays.
+fn add_weights(random: &mut Random, plan: &mut Plan) {
+    let one_in = random.pick(&[1, 1, 1, 2, 2, 3, 4, usize::MAX]);
+    let (keeps, manner) = (random.once_in(3), random.pick(&[0, 2, 2, 3, 3, 4, 4]));
+    for (number, segment) in plan.segments.iter_mut().enumerate() {
+        if segment.sink == 1 && random.once_in(one_in) {
+            let count = if keeps { segment.weight } else { weight(random, manner) };
+            let planned = if random.once_in(4) {
+                PlannedWeight::Absent
+            } else {
+                weight_of(random, count)
+            };
+            if keeps && planned != PlannedWeight::Absent {
+                segment.weight = random.byte();
+            }
+            plan.weights.push((number as u8, planned));
+        }
+    }
+}
+
+/// A small valid job's plan with weights, with repeaters or without.
+pub fn weighed_plan(random: &mut Random, most: u128) -> Plan {
+    let make = random.pick(&[small_plan, repeater_plan]);
+    let mut plan = make(random, most);
+    add_weights(random, &mut plan);
+    plan
+}
+
+/// A valid job's plan of 10 to 64 segments with weights, with repeaters or without, whose ranges are not narrowed.
+pub fn large_weighed_plan(random: &mut Random) -> Plan {
+    let make = random.pick(&[large_plan, large_repeater_plan]);
+    let mut plan = make(random);
+    add_weights(random, &mut plan);
+    plan
+}
+
+/// Gives every sink of a plan a weight record that leaves the weight as it is: each fourth segment's is absent, the others have the
+/// weight, and the own byte is changed.
+pub fn move_weights(random: &mut Random, plan: &mut Plan) {
+    for (number, segment) in plan.segments.iter_mut().enumerate().filter(|(_, segment)| segment.sink == 1) {
+        let weight = if number % 4 == 3 {
+            PlannedWeight::Absent
+        } else {
+            let weight = weight_of(random, segment.weight);
+            segment.weight ^= random.between(1, 255) as u8;
+            weight
+        };
+        plan.weights.push((number as u8, weight));
+    }
 }
 
 /// A plan of many segments in which resistance falls and capacitance rises by a factor from row to row, as in clock nets.

@@ -3,6 +3,7 @@
 pub mod batches;
 pub mod calls;
 pub mod damage;
+pub mod fractions;
 pub mod generate;
 #[cfg(feature = "library")]
 pub mod interface;

@@ -1,8 +1,9 @@
 //! Jobs at and just beyond every limit, jobs with a capacitance or a weight where there is no sink, jobs of two layers, jobs with
-//! repeaters, and jobs of the largest size and figures.
+//! repeaters, jobs with weights, and jobs of the largest size and figures.
 
+use crate::fractions::{MINUS_ZERO, fraction, refused};
 use crate::generate::{SHAPES, Shape, parent_byte};
-use crate::plan::{Plan, segment_with_sink, segment_without_sink};
+use crate::plan::{Plan, PlannedWeight, segment_with_sink, segment_without_sink};
 use crate::random::Random;
 
 /// A job with a name and the number with which every operation has to meet it (0: not refused by its own questions).
@@ -526,11 +527,11 @@ const REPEATERS: [(&str, u64, Change); 49] = [
     }),
     ("one index", 0, |job| job[16 * 10 + 4] = 0),
     ("the highest index alone", 0, |job| job[16 * 11 + 3] = 1),
-    ("2: kind 6 last", 2, |job| job[16 * 11] = 6),
-    ("2: kind 6 behind the repeaters", 2, |job| job.extend([6; 16])),
+    ("the last is a whole weight", 0, |job| job[16 * 11] = 6),
+    ("2: kind 7 behind the repeaters", 2, |job| job.extend([7; 16])),
     ("2: kind 255 last", 2, |job| job[16 * 11] = 255),
     ("2: kind 0 last", 2, |job| job[16 * 11] = 0),
-    ("2 before 24: kind 6", 2, |job| (job[16 * 11], job[16 + 2]) = (6, 2)),
+    ("2 before 24: kind 7", 2, |job| (job[16 * 11], job[16 + 2]) = (7, 2)),
     ("2: the kind falls from 5 to 4 at the last record", 2, |job| job[16 * 11] = 4),
     ("2: the kind falls from 5 to 4 at the last segment", 2, |job| job[16 * 8] = 5),
     ("2: the kind falls from 5 to 1", 2, |job| job[0] = 5),
@@ -621,7 +622,9 @@ const BEFORE_22: [(u64, Change); 22] = [
     (24, |job| job[16 + 2] = 2),
     (24, |job| job[16 * 9 + 15] = 1),
     (3, |job| drop(job.drain(16 * 4..16 * 6))),
-    (3, |job| (2..9).for_each(|number| job.extend(repeater(number, 1)))),
+    (3, |job| {
+        drop(job.splice(16 * 12..16 * 12, (2..9).flat_map(|number| repeater(number, 1))))
+    }),
     (4, |job| job[16 + 1] = 0),
     (4, |job| job[16 * 10 + 1] = 1),
     (5, |job| job[3] = 1),
@@ -644,20 +647,33 @@ fn repeater(number: u8, segment: u8) -> [u8; 16] {
     record
 }
 
+/// The job of a plan with a change.
+fn changed(plan: &Plan, name: String, number: u64, change: Change) -> Limit {
+    let mut job = plan.bytes();
+    change(&mut job);
+    Limit { name, job, number }
+}
+
 /// Jobs that fail nothing but 22 or 23: 22 in each of its ways, 23 in both, and both numbers at once.
 pub fn repeater_faults() -> Vec<Limit> {
     let faults = REPEATER_FAULTS.into_iter().enumerate();
     faults
-        .map(|(fault, (number, change))| {
-            let mut job = two_repeaters().bytes();
-            change(&mut job);
-            Limit {
-                name: format!("fault {fault} of repeaters"),
-                job,
-                number,
-            }
-        })
+        .map(|(fault, (number, change))| changed(&two_repeaters(), format!("fault {fault} of repeaters"), number, change))
         .collect()
+}
+
+/// Each of the earlier faults in the job of a plan, alone and beside each fault of a list; the number is the earlier one's.
+fn with_earlier(plan: &Plan, faults: fn() -> Vec<Limit>, earlier: &[(u64, Change)]) -> Vec<Limit> {
+    let mut limits = Vec::new();
+    for (case, &(number, change)) in earlier.iter().enumerate() {
+        limits.push(changed(plan, format!("case {case} alone"), number, change));
+        for fault in faults() {
+            let (name, mut job) = (format!("{} and case {case}", fault.name), fault.job);
+            change(&mut job);
+            limits.push(Limit { name, job, number });
+        }
+    }
+    limits
 }
 
 /// A chain of segments with repeaters at its first ones.
@@ -672,22 +688,11 @@ fn chain_with_repeaters(segments: u8, repeaters: u8) -> Plan {
 /// and beyond them, and tables of sizes longer and shorter than that of the widths.
 pub fn repeater_limits() -> Vec<Limit> {
     let mut limits = repeater_faults();
+    limits.extend(
+        REPEATERS.map(|(name, number, change)| changed(&two_repeaters(), format!("two repeaters: {name}"), number, change)),
+    );
+    limits.extend(with_earlier(&two_repeaters(), repeater_faults, &BEFORE_22));
     let mut push = |name: String, job: Vec<u8>, number: u64| limits.push(Limit { name, job, number });
-    for (name, number, change) in REPEATERS {
-        let mut job = two_repeaters().bytes();
-        change(&mut job);
-        push(format!("two repeaters: {name}"), job, number);
-    }
-    for (case, (number, before)) in BEFORE_22.into_iter().enumerate() {
-        let mut beside = two_repeaters().bytes();
-        before(&mut beside);
-        push(format!("two repeaters and case {case}"), beside, number);
-        for fault in repeater_faults() {
-            let mut job = fault.job;
-            before(&mut job);
-            push(format!("{} and case {case}", fault.name), job, number);
-        }
-    }
     for (record, at, value) in [10, 11]
         .into_iter()
         .flat_map(|record| (5..16).map(move |at| (record, at, 1 << (at % 8))))
@@ -721,8 +726,290 @@ pub fn repeater_limits() -> Vec<Limit> {
     limits
 }
 
+/// The job with two repeaters and three weights: the fraction 1/4 for segment 1, which has a branch, the whole number 7 for segment
+/// 2, and segment 3's is absent. Weights are the records 12 to 14; the fraction's last bytes are 0xd0 and 0x3f.
+fn three_weights() -> Plan {
+    let mut plan = two_repeaters();
+    plan.weights = vec![
+        (1, PlannedWeight::Fraction(fraction(64))),
+        (2, PlannedWeight::Whole(7)),
+        (3, PlannedWeight::Absent),
+    ];
+    plan
+}
+
+/// Questions 20 and 21 and their order, and the other questions where weights change them: what is changed in the job with three
+/// weights, and its number then.
+const WEIGHTS: [(&str, u64, Change); 61] = [
+    ("nothing", 0, |_| ()),
+    ("no weight", 0, |job| job.truncate(16 * 12)),
+    ("a fraction alone", 0, |job| job.truncate(16 * 13)),
+    ("a whole number alone", 0, |job| {
+        job.truncate(16 * 14);
+        drop(job.drain(16 * 12..16 * 13));
+    }),
+    ("an absent one alone", 0, |job| drop(job.drain(16 * 12..16 * 14))),
+    ("weights and no repeater", 0, |job| drop(job.drain(16 * 10..16 * 12))),
+    ("the first and the last", 0, |job| drop(job.drain(16 * 13..16 * 14))),
+    ("minus zero", 0, |job| (job[16 * 12 + 14], job[16 * 12 + 15]) = (0, 0x80)),
+    ("2: kind 7 last", 2, |job| job[16 * 14] = 7),
+    ("2: kind 255 last", 2, |job| job[16 * 14] = 255),
+    ("2: kind 0 last", 2, |job| job[16 * 14] = 0),
+    ("2: kind 0 first of the weights", 2, |job| job[16 * 12] = 0),
+    ("2: kind 7 behind the weights", 2, |job| job.extend([7; 16])),
+    ("2: a weight before a repeater", 2, |job| job[16 * 10] = 6),
+    ("2: a weight before all repeaters", 2, |job| job[16 * 9] = 6),
+    ("2: a weight before a segment", 2, |job| job[16 * 8] = 6),
+    ("2: a weight first", 2, |job| job[0] = 6),
+    ("2: a repeater behind a weight", 2, |job| job[16 * 14] = 5),
+    ("2: a segment behind a weight", 2, |job| job[16 * 13] = 4),
+    ("2 before 24", 2, |job| (job[16 * 14], job[16 + 2]) = (7, 2)),
+    ("3: weights alone", 3, |job| drop(job.drain(..16 * 12))),
+    ("3: weights in place of segments and repeaters", 3, |job| {
+        drop(job.drain(16 * 6..16 * 12))
+    }),
+    ("3: weights and no stage", 3, |job| drop(job.drain(16 * 4..16 * 6))),
+    ("4: the first segment twice", 4, |job| job[16 * 13 + 1] = 1),
+    ("4: the last segment twice", 4, |job| job[16 * 13 + 1] = 3),
+    ("4: one segment thrice", 4, |job| {
+        (job[16 * 12 + 1], job[16 * 14 + 1]) = (2, 2)
+    }),
+    ("4: the first two fall", 4, |job| {
+        (job[16 * 12 + 1], job[16 * 13 + 1]) = (2, 1)
+    }),
+    ("4: the last two fall", 4, |job| (job[16 * 13 + 1], job[16 * 14 + 1]) = (3, 2)),
+    ("4: segment 255 first", 4, |job| job[16 * 12 + 1] = 255),
+    ("4: segment 0 last", 4, |job| job[16 * 14 + 1] = 0),
+    ("4 before 5", 4, |job| (job[16 * 13 + 1], job[16 * 13 + 3]) = (1, 1)),
+    ("5: a fraction that is called absent", 5, |job| job[16 * 12 + 2] = 0),
+    ("5: a fraction that is called whole", 5, |job| job[16 * 12 + 2] = 1),
+    ("5 before 20: a fraction of form 3", 5, |job| job[16 * 12 + 2] = 3),
+    ("5: a whole number that is called absent", 5, |job| job[16 * 13 + 2] = 0),
+    ("5: a whole number that is called a fraction", 5, |job| job[16 * 13 + 2] = 2),
+    ("5 before 20: a whole number of form 255", 5, |job| job[16 * 13 + 2] = 255),
+    ("5 before 20: byte 3, in a missing segment's", 5, |job| {
+        (job[16 * 14 + 1], job[16 * 14 + 3]) = (4, 1)
+    }),
+    ("5 before 21", 5, |job| (job[16 * 12 + 3], job[16 * 12 + 8]) = (1, 1)),
+    ("an absent one that is called whole", 0, |job| job[16 * 14 + 2] = 1),
+    ("an absent one that is called a fraction", 0, |job| job[16 * 14 + 2] = 2),
+    ("20: the segment is the count", 20, |job| job[16 * 14 + 1] = 4),
+    ("20: the segment is one more", 20, |job| job[16 * 14 + 1] = 5),
+    ("20: segment 64", 20, |job| job[16 * 14 + 1] = 64),
+    ("20: segment 255", 20, |job| job[16 * 14 + 1] = 255),
+    ("20: all segments missing", 20, |job| {
+        (job[16 * 12 + 1], job[16 * 13 + 1], job[16 * 14 + 1]) = (4, 5, 6)
+    }),
+    ("20: a fraction without a sink", 20, |job| job[16 * 12 + 1] = 0),
+    ("20: a whole number without a sink", 20, |job| {
+        drop(job.drain(16 * 12..16 * 13));
+        job[16 * 12 + 1] = 0;
+    }),
+    ("20: an absent one without a sink", 20, |job| {
+        drop(job.drain(16 * 12..16 * 14));
+        job[16 * 12 + 1] = 0;
+    }),
+    ("20: the sink is gone", 20, |job| {
+        job[16 * 7 + 3] = 0;
+        job[16 * 7 + 8..16 * 7 + 13].fill(0);
+    }),
+    ("20: the whole number 263", 20, |job| job[16 * 13 + 5] = 1),
+    ("20: the highest byte of a whole number", 20, |job| job[16 * 13 + 7] = 128),
+    ("20 before 21: the fraction first", 20, |job| {
+        (job[16 * 12 + 8], job[16 * 14 + 2]) = (1, 3)
+    }),
+    ("20 before 21: the fraction before a whole number", 20, |job| {
+        (job[16 * 12 + 15], job[16 * 13 + 5]) = (0xbf, 1)
+    }),
+    ("20 before 21: the fraction last", 20, |job| {
+        (job[16 * 12 + 1], job[16 * 14 + 2], job[16 * 14 + 8]) = (0, 2, 1)
+    }),
+    ("20 before 21: a missing segment, in one record", 20, |job| {
+        (job[16 * 14 + 1], job[16 * 14 + 2], job[16 * 14 + 8]) = (4, 2, 1)
+    }),
+    ("20 before 21: no sink, in one record", 20, |job| {
+        (job[16 * 12 + 1], job[16 * 12 + 8]) = (0, 1)
+    }),
+    ("21: the first fraction", 21, |job| job[16 * 12 + 8] = 1),
+    ("21: the last fraction", 21, |job| {
+        (job[16 * 14 + 2], job[16 * 14 + 8]) = (2, 1)
+    }),
+    ("21: both fractions", 21, |job| {
+        (job[16 * 12 + 15], job[16 * 14 + 2], job[16 * 14 + 8]) = (0xbf, 2, 1)
+    }),
+    ("21: 1/4 and nothing else of it is byte 15", 21, |job| job[16 * 12 + 14] = 0),
+];
+
+/// What may be wrong with the weights of such a job, and its number then: 20 in each of its ways, 21 in each of its ways, and both.
+const WEIGHT_FAULTS: [(u64, Change); 12] = [
+    (20, |job| job[16 * 14 + 1] = 4),
+    (20, |job| job[16 * 12 + 1] = 0),
+    (20, |job| job[16 * 14 + 2] = 3),
+    (20, |job| job[16 * 13 + 5] = 1),
+    (21, |job| (job[16 * 12 + 14], job[16 * 12 + 15]) = (0xf8, 0x7f)),
+    (21, |job| (job[16 * 12 + 14], job[16 * 12 + 15]) = (0xf0, 0xff)),
+    (21, |job| job[16 * 12 + 15] = 0xbf),
+    (21, |job| (job[16 * 12 + 14], job[16 * 12 + 15]) = (8, 0)),
+    (21, |job| job[16 * 12 + 14] = 0xf0),
+    (21, |job| job[16 * 12 + 8] = 1),
+    (21, |job| job[16 * 12 + 13] = 1),
+    (20, |job| (job[16 * 12 + 8], job[16 * 14 + 2]) = (1, 3)),
+];
+
+/// Jobs that fail nothing but 20 or 21: each in each of its ways, and both numbers at once.
+pub fn weight_faults() -> Vec<Limit> {
+    let faults = WEIGHT_FAULTS.into_iter().enumerate();
+    faults
+        .map(|(fault, (number, change))| changed(&three_weights(), format!("fault {fault} of weights"), number, change))
+        .collect()
+}
+
+/// The middle job with a weight for its sink, which has an own byte.
+fn one_weight(name: String, own: u8, weight: PlannedWeight, number: u64) -> Limit {
+    let mut plan = middle();
+    plan.segments[1].weight = own;
+    plan.weights = vec![(1, weight)];
+    let job = plan.bytes();
+    Limit { name, job, number }
+}
+
+/// Jobs with one weight: every fraction that counts, fractions that are refused, whole numbers up to their limit and beyond; and
+/// weights that are the own byte or another one, 0 among both.
+fn single_weights() -> Vec<Limit> {
+    let counted = (0..=255).map(|count| (format!("{count}/256"), PlannedWeight::Fraction(fraction(count)), 0));
+    let refused = refused()
+        .into_iter()
+        .map(|(name, bits)| (name, PlannedWeight::Fraction(bits), 21));
+    let whole = [0, 1, 2, 3, 127, 128, 254, 255].map(|number| (number, 0));
+    let beyond = [256, 257, 258, 511, 512, 1 << 16, (1 << 16) + 3, 1 << 24, 1 << 31, u32::MAX].map(|number| (number, 20));
+    let whole = whole
+        .into_iter()
+        .chain(beyond)
+        .map(|(whole, number)| (format!("the whole number {whole}"), PlannedWeight::Whole(whole), number));
+    let mut limits: Vec<Limit> = counted
+        .chain(refused)
+        .chain(whole)
+        .map(|(name, weight, number)| one_weight(name, 3, weight, number))
+        .collect();
+    for own in [0, 1, 255] {
+        let counts = [0, 1, 255];
+        let whole = counts.map(|count| PlannedWeight::Whole(count.into()));
+        let fractions = counts.map(|count| PlannedWeight::Fraction(fraction(count)));
+        let others = [PlannedWeight::Absent, PlannedWeight::Fraction(MINUS_ZERO)];
+        for weight in others.into_iter().chain(whole).chain(fractions) {
+            limits.push(one_weight(format!("{weight:?} and the own byte {own}"), own, weight, 0));
+        }
+    }
+    limits
+}
+
+/// The number of a job whose one weight has a form, zeros behind it, and one bit at a byte, which is that byte's lowest in byte 8
+/// and one higher in each byte behind it; so it is minus zero in byte 15.
+fn number_for_bit(form: u8, at: usize) -> u64 {
+    match (form, at) {
+        (1, 4) | (2, 15) => 0,
+        (1, 5..=7) => 20,
+        (2, 8..) => 21,
+        _ => 5,
+    }
+}
+
+/// Jobs with one weight of every form, and with a bit in each byte behind a form, named or not.
+fn weight_forms() -> Vec<Limit> {
+    // the weight is the record 8
+    let with = |form: u8, name: String, number: u64| {
+        let mut limit = one_weight(name, 3, PlannedWeight::Absent, number);
+        limit.job[16 * 8 + 2] = form;
+        limit
+    };
+    let mut limits: Vec<Limit> = (0..=255)
+        .map(|form| with(form, format!("form {form}"), if form > 2 { 20 } else { 0 }))
+        .collect();
+    for form in [0, 1, 2, 3, 4, 128, 255] {
+        for at in 3..16 {
+            let mut limit = with(form, format!("form {form} and a bit in byte {at}"), number_for_bit(form, at));
+            limit.job[16 * 8 + at] = 1 << (at % 8);
+            limits.push(limit);
+        }
+    }
+    limits
+}
+
+/// A weight by its turn: a fraction, a whole number, absent, or minus zero.
+fn weight_in_turn(turn: usize) -> PlannedWeight {
+    match turn % 4 {
+        0 => PlannedWeight::Fraction(fraction(turn as u8)),
+        1 => PlannedWeight::Whole(u32::from(turn as u8)),
+        2 => PlannedWeight::Absent,
+        _ => PlannedWeight::Fraction(MINUS_ZERO),
+    }
+}
+
+/// Jobs of 64 segments with so many weights, all fractions or of each form in turn: beyond 64 a segment is missing, beyond 256 the
+/// numbers cannot rise. And with one weight, for a segment among the 64 or behind them.
+fn weight_counts() -> Vec<Limit> {
+    let mut star = counted(2, 2, 2, 64);
+    star.segments[..5].iter_mut().for_each(|segment| segment.highest = 1);
+    let with = |name: String, weights: Vec<(u8, PlannedWeight)>, number: u64| {
+        let mut plan = star.clone();
+        plan.weights = weights;
+        let job = plan.bytes();
+        Limit { name, job, number }
+    };
+    let some_fraction = |turn: usize| PlannedWeight::Fraction(fraction(255 - turn as u8));
+    let counts = [
+        (0, 0),
+        (1, 0),
+        (63, 0),
+        (64, 0),
+        (65, 20),
+        (66, 20),
+        (128, 20),
+        (255, 20),
+        (256, 20),
+    ];
+    let beyond = [257, 258, 320, 512, 1_000, 4_026, 4_930].map(|count| (count, 4));
+    let mut limits = Vec::new();
+    for (count, number) in counts.into_iter().chain(beyond) {
+        let all = |weight: &dyn Fn(usize) -> PlannedWeight| (0..count).map(|i| (i as u8, weight(i))).collect();
+        limits.push(with(format!("{count} fractions"), all(&some_fraction), number));
+        limits.push(with(format!("{count} weights"), all(&weight_in_turn), number));
+        limits.push(with(
+            format!("{count} absent weights"),
+            all(&|_| PlannedWeight::Absent),
+            number,
+        ));
+    }
+    for segment in [0, 1, 62, 63, 64, 65, 127, 128, 254, 255] {
+        let number = if segment < 64 { 0 } else { 20 };
+        let weight = (segment, PlannedWeight::Whole(9));
+        limits.push(with(format!("a weight for segment {segment}"), vec![weight], number));
+    }
+    let twice: Vec<(u8, PlannedWeight)> = (0..128).map(|i| (i as u8 / 2, some_fraction(i))).collect();
+    let mut last_twice = twice.iter().copied().step_by(2).collect::<Vec<_>>();
+    last_twice.push((63, PlannedWeight::Absent));
+    limits.push(with("each of 64 twice".into(), twice, 4));
+    limits.push(with("the last of 64 twice".into(), last_twice, 4));
+    limits
+}
+
+/// Jobs with weights: changed in one field, with another question's fault beside theirs, with one weight of every count and of what
+/// is refused, each byte of each form, and counts up to the most and beyond.
+pub fn weight_limits() -> Vec<Limit> {
+    let mut limits = weight_faults();
+    limits.extend(
+        WEIGHTS.map(|(name, number, change)| changed(&three_weights(), format!("three weights: {name}"), number, change)),
+    );
+    limits.extend(with_earlier(&three_weights(), weight_faults, &BEFORE_22));
+    limits.extend(with_earlier(&three_weights(), weight_faults, &REPEATER_FAULTS));
+    limits.extend(single_weights());
+    limits.extend(weight_forms());
+    limits.extend(weight_counts());
+    limits
+}
+
 /// All jobs at and just beyond a limit, those with a capacitance or a weight where there is no sink, and those of two layers; none
-/// has repeaters.
+/// has repeaters or weights.
 pub fn limits() -> Vec<Limit> {
     let mut all = field_limits();
     all.extend(count_limits());

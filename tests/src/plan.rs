@@ -15,8 +15,16 @@ pub struct PlannedSegment {
     pub layer: u8,
 }
 
+/// What a weight record says: nothing, a whole number, or the bits of a binary64.
+#[derive(Clone, Copy, PartialEq, Eq, Debug)]
+pub enum PlannedWeight {
+    Absent,
+    Whole(u32),
+    Fraction(u64),
+}
+
 /// A job's fields: widths of layer 0 and, called thick, of layer 1 as resistance and capacitance, sizes as resistance, gate and
-/// output, stages as lowest and highest, repeaters as segment, lowest and highest.
+/// output, stages as lowest and highest, repeaters as segment, lowest and highest, weights with their segment.
 #[derive(Clone, Debug, Default)]
 pub struct Plan {
     pub widths: Vec<[u32; 2]>,
@@ -25,6 +33,7 @@ pub struct Plan {
     pub stages: Vec<[u8; 2]>,
     pub segments: Vec<PlannedSegment>,
     pub repeaters: Vec<[u8; 3]>,
+    pub weights: Vec<(u8, PlannedWeight)>,
 }
 
 impl Plan {
@@ -89,6 +98,11 @@ impl Plan {
         for (i, &[segment, lowest, highest]) in self.repeaters.iter().enumerate() {
             job.extend(record([5, i as u8, segment, lowest], [highest.into(), 0, 0]));
         }
+        job.extend(
+            self.weights
+                .iter()
+                .flat_map(|&(segment, weight)| weight_record(segment, weight)),
+        );
         job
     }
 }
@@ -100,6 +114,16 @@ fn record(start: [u8; 4], numbers: [u32; 3]) -> Vec<u8> {
         bytes.extend(number.to_le_bytes());
     }
     bytes
+}
+
+/// The record of a segment's weight.
+pub fn weight_record(segment: u8, weight: PlannedWeight) -> Vec<u8> {
+    let (form, whole, bits) = match weight {
+        PlannedWeight::Absent => (0, 0, 0),
+        PlannedWeight::Whole(number) => (1, number, 0),
+        PlannedWeight::Fraction(bits) => (2, 0, bits),
+    };
+    record([6, segment, form, 0], [whole, bits as u32, (bits >> 32) as u32])
 }
 
 /// A segment of layer 0 with a sink.

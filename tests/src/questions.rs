@@ -1,4 +1,4 @@
-//! Questions 1 to 11 and 22 to 24 of a job, asked one after the other, and the net that a job describes.
+//! Questions 1 to 11 and 20 to 24 of a job, asked one after the other, and the net that a job describes.
 
 /// The bytes of one record.
 pub const RECORD: usize = 16;
@@ -20,7 +20,7 @@ pub struct Size {
     pub output: u64,
 }
 
-/// A sink at the far end of a segment.
+/// A sink at the far end of a segment; its weight counts 256ths.
 pub struct Sink {
     pub capacitance: u64,
     pub weight: u64,
@@ -91,6 +91,10 @@ pub fn product(factors: impl Iterator<Item = u128>) -> u128 {
     factors.fold(1, u128::saturating_mul)
 }
 
+/// The forms of a weight record besides 0, which keeps the segment's own byte.
+const WHOLE: u8 = 1;
+const FRACTION: u8 = 2;
+
 /// The four bytes of a record from `at` on, lowest first.
 fn number(record: &[u8], at: usize) -> u64 {
     (0..4).map(|i| u64::from(record[at + i]) << (8 * i)).sum()
@@ -106,10 +110,10 @@ fn question_1(job: &[u8]) -> bool {
     !job.is_empty() && job.len().is_multiple_of(RECORD)
 }
 
-/// Question 2: is every kind 1 to 5, never falling?
+/// Question 2: is every kind 1 to 6, never falling?
 fn question_2(job: &[u8]) -> bool {
     let kinds: Vec<u8> = job.chunks(RECORD).map(|record| record[0]).collect();
-    kinds.iter().all(|kind| (1..=5).contains(kind)) && kinds.windows(2).all(|pair| pair[0] <= pair[1])
+    kinds.iter().all(|kind| (1..=6).contains(kind)) && kinds.windows(2).all(|pair| pair[0] <= pair[1])
 }
 
 /// The width records of one layer, which byte 2 names, in their order.
@@ -146,25 +150,29 @@ fn question_3(job: &[u8]) -> bool {
             .all(|&(kind, most)| (1..=most).contains(&of_kind(job, kind).len()))
 }
 
-/// The lists of records that are numbered from 0: the widths of each layer, and each other kind.
+/// The lists of records that are numbered from 0: the widths of each layer, and each other kind but the weights.
 fn numbered(job: &[u8]) -> Vec<Vec<&[u8]>> {
     let layers = (0..=1).map(|layer| of_layer(job, layer));
     layers.chain((2..=5).map(|kind| of_kind(job, kind))).collect()
 }
 
-/// Question 4: do numbers count from 0 in each kind, those of widths in each layer?
+/// Question 4: do numbers count from 0 in each of the kinds 1 to 5, those of widths in each layer, and do those of weights
+/// rise strictly?
 fn question_4(job: &[u8]) -> bool {
     let counts = |list: &Vec<&[u8]>| list.iter().enumerate().all(|(i, record)| usize::from(record[1]) == i);
-    numbered(job).iter().all(counts)
+    numbered(job).iter().all(counts) && of_kind(job, 6).windows(2).all(|pair| pair[0][1] < pair[1][1])
 }
 
-/// The bytes of a record that the format names, the kind and the number included.
-fn named_bytes(kind: u8) -> &'static [usize] {
-    match kind {
-        1 => &[0, 1, 2, 4, 5, 6, 7, 8, 9, 10, 11],
-        2 => &[0, 1, 4, 5, 6, 7, 8, 9, 10, 11, 12, 13, 14, 15],
-        3 => &[0, 1, 2, 3],
-        5 => &[0, 1, 2, 3, 4],
+/// The bytes of a record that the format names, the kind and the number included; those of a weight go by its form.
+fn named_bytes(record: &[u8]) -> &'static [usize] {
+    match (record[0], record[2]) {
+        (1, _) => &[0, 1, 2, 4, 5, 6, 7, 8, 9, 10, 11],
+        (2, _) => &[0, 1, 4, 5, 6, 7, 8, 9, 10, 11, 12, 13, 14, 15],
+        (3, _) => &[0, 1, 2, 3],
+        (5, _) => &[0, 1, 2, 3, 4],
+        (6, WHOLE) => &[0, 1, 2, 4, 5, 6, 7],
+        (6, FRACTION) => &[0, 1, 2, 8, 9, 10, 11, 12, 13, 14, 15],
+        (6, _) => &[0, 1, 2],
         _ => &[0, 1, 2, 3, 4, 5, 6, 7, 8, 9, 10, 11, 12, 13, 14, 15],
     }
 }
@@ -176,7 +184,7 @@ fn has_stray_sink(record: &[u8]) -> bool {
 
 /// Question 5: are all unnamed bytes zero?
 fn question_5(job: &[u8]) -> bool {
-    let unnamed_zero = |record: &[u8]| (0..RECORD).all(|at| record[at] == 0 || named_bytes(record[0]).contains(&at));
+    let unnamed_zero = |record: &[u8]| (0..RECORD).all(|at| record[at] == 0 || named_bytes(record).contains(&at));
     job.chunks(RECORD).all(unnamed_zero)
 }
 
@@ -273,6 +281,107 @@ fn question_23(job: &[u8]) -> bool {
     range_faults(job) == [false; 2]
 }
 
+/// The parts of a binary64: whether it is negative, the exponent field, and the 52 bits behind it.
+fn parts(bits: u64) -> (bool, u64, u64) {
+    (bits >> 63 == 1, bits >> 52 & 0x7ff, bits & ((1 << 52) - 1))
+}
+
+/// The whole number that 256 times a binary64 is, read off its bits; none unless it is one from 0 to 255.
+pub fn fraction_count(bits: u64) -> Option<u64> {
+    let (negative, exponent, behind) = parts(bits);
+    match (exponent, behind) {
+        (0, 0) => Some(0),
+        (0 | 0x7ff, _) => None,
+        _ if negative => None,
+        _ => {
+            // the binary64 is this times 2 to the exponent less 1,075, so 256 times it is this shifted down
+            let significand = 1 << 52 | behind;
+            let down = 1_067_u64.checked_sub(exponent).filter(|&down| down <= 52)?;
+            let count = significand >> down;
+            (count << down == significand && count <= 255).then_some(count)
+        }
+    }
+}
+
+/// The eight bytes of a weight record that hold a fraction, as the bits of a binary64.
+fn fraction_bits(record: &[u8]) -> u64 {
+    number(record, 12) << 32 | number(record, 8)
+}
+
+/// The ways in which a job fails question 20: a weight's segment is missing, it is there and has no sink, a form is above 2, or a
+/// whole number is above 255.
+pub fn weight_faults(job: &[u8]) -> [bool; 4] {
+    let (weights, segments) = (of_kind(job, 6), of_kind(job, 4));
+    let segment = |record: &[u8]| segments.get(usize::from(record[1])).copied();
+    [
+        weights.iter().any(|record| segment(record).is_none()),
+        weights
+            .iter()
+            .any(|record| segment(record).is_some_and(|found| found[3] == 0)),
+        weights.iter().any(|record| record[2] > FRACTION),
+        weights.iter().any(|record| record[2] == WHOLE && number(record, 4) > 255),
+    ]
+}
+
+/// Question 20: is there none of these?
+fn question_20(job: &[u8]) -> bool {
+    weight_faults(job) == [false; 4]
+}
+
+/// The ways in which a fraction fails, of which each that fails has one.
+#[derive(Clone, Copy, PartialEq, Eq, Debug)]
+pub enum FractionFault {
+    NotANumber,
+    Infinite,
+    Negative,
+    Subnormal,
+    TooLarge,
+    NextToACount,
+    NoCount,
+}
+
+/// All of them, in their order.
+pub const FRACTION_FAULTS: [FractionFault; 7] = [
+    FractionFault::NotANumber,
+    FractionFault::Infinite,
+    FractionFault::Negative,
+    FractionFault::Subnormal,
+    FractionFault::TooLarge,
+    FractionFault::NextToACount,
+    FractionFault::NoCount,
+];
+
+/// The way in which a fraction fails, if it does.
+pub fn fraction_fault(bits: u64) -> Option<FractionFault> {
+    if fraction_count(bits).is_some() {
+        return None;
+    }
+    let next_to_a_count = [bits - 1, bits.wrapping_add(1)]
+        .into_iter()
+        .any(|near| fraction_count(near).is_some());
+    Some(match parts(bits) {
+        (_, 0x7ff, 0) => FractionFault::Infinite,
+        (_, 0x7ff, _) => FractionFault::NotANumber,
+        (true, ..) => FractionFault::Negative,
+        (_, 0, _) => FractionFault::Subnormal,
+        (_, 0x3ff.., _) => FractionFault::TooLarge,
+        _ if next_to_a_count => FractionFault::NextToACount,
+        _ => FractionFault::NoCount,
+    })
+}
+
+/// The ways in which a job fails question 21, those of its fractions.
+pub fn fraction_faults(job: &[u8]) -> [bool; 7] {
+    let weights = of_kind(job, 6).into_iter().filter(|record| record[2] == FRACTION);
+    let found: Vec<FractionFault> = weights.filter_map(|record| fraction_fault(fraction_bits(record))).collect();
+    FRACTION_FAULTS.map(|fault| found.contains(&fault))
+}
+
+/// Question 21: is there none of these?
+fn question_21(job: &[u8]) -> bool {
+    fraction_faults(job) == [false; 7]
+}
+
 /// Whether a capacitance or a weight stands at a segment whose sink byte is 0, in a job that passes 1, 2, 24, 3 and 4 and has its
 /// unnamed bytes zero: question 10 alone forbids it.
 pub fn stray_sink_alone(job: &[u8]) -> bool {
@@ -304,9 +413,10 @@ pub fn fails_in_layer_1(job: &[u8], number: u64) -> bool {
 /// A question of a job, and whether its answer is yes.
 type Question = fn(&[u8]) -> bool;
 
-/// The number of the first question of a job whose answer is no, or 0: 24 is asked after 2 and before 3, 22 and 23 after 11.
+/// The number of the first question of a job whose answer is no, or 0: 24 is asked after 2 and before 3, 22 and 23 after 11,
+/// 20 and 21 last.
 pub fn first_no(job: &[u8]) -> u64 {
-    let questions: [(u64, Question); 14] = [
+    let questions: [(u64, Question); 16] = [
         (1, question_1),
         (2, question_2),
         (24, question_24),
@@ -321,16 +431,34 @@ pub fn first_no(job: &[u8]) -> u64 {
         (11, question_11),
         (22, question_22),
         (23, question_23),
+        (20, question_20),
+        (21, question_21),
     ];
     let failed = questions.iter().find(|(_, question)| !question(job));
     failed.map_or(0, |&(number, _)| number)
 }
 
-/// One segment out of its record.
-fn read_segment(record: &[u8]) -> Segment {
+/// The count that a weight record has: its whole number or that of its fraction, none where it is absent.
+fn count_of(record: &[u8]) -> Option<u64> {
+    match record[2] {
+        WHOLE => Some(number(record, 4)),
+        FRACTION => fraction_count(fraction_bits(record)),
+        _ => None,
+    }
+}
+
+/// The weight of a segment's sink: the count of its weight record, where it has one with a count, else its own byte.
+fn sink_weight(job: &[u8], segment: &[u8]) -> u64 {
+    let records = of_kind(job, 6);
+    let own = records.into_iter().find(|record| record[1] == segment[1]);
+    own.and_then(count_of).unwrap_or(u64::from(segment[12]))
+}
+
+/// One segment of a job out of its record.
+fn read_segment(job: &[u8], record: &[u8]) -> Segment {
     let sink = Sink {
         capacitance: number(record, 8),
-        weight: u64::from(record[12]),
+        weight: sink_weight(job, record),
     };
     Segment {
         parent: usize::from(record[2]).checked_sub(1),
@@ -377,7 +505,7 @@ pub fn read(job: &[u8]) -> Result<Net, u64> {
         gate: number(record, 8),
         output: number(record, 12),
     };
-    let segments: Vec<Segment> = of_kind(job, 4).into_iter().map(read_segment).collect();
+    let segments: Vec<Segment> = of_kind(job, 4).into_iter().map(|record| read_segment(job, record)).collect();
     let sites: Vec<usize> = of_kind(job, 5).iter().map(|record| usize::from(record[2])).collect();
     let count = segments.len();
     let paths: Vec<Vec<usize>> = (0..count).map(|s| path_to_source(&segments, s)).collect();

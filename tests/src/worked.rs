@@ -1,6 +1,7 @@
-//! The worked jobs of the specification, jobs of two layers and jobs with repeaters, and a clock net of realistic shape.
+//! The worked jobs of the specification, jobs of two layers, with repeaters and with weights, and a clock net of realistic shape.
 
-use crate::plan::{Plan, PlannedSegment, segment_with_sink, segment_without_sink};
+use crate::fractions::{MINUS_ZERO, fraction};
+use crate::plan::{Plan, PlannedSegment, PlannedWeight, segment_with_sink, segment_without_sink};
 
 /// J1: two widths, one size, one stage, one segment.
 pub fn j1() -> Plan {
@@ -211,15 +212,18 @@ pub fn with_repeaters() -> Vec<Plan> {
     vec![one_repeater(), weightless_behind(), tied_repeater(), two_repeaters()]
 }
 
-/// Jobs with repeaters, each with its number: the two that pass, question 22 in each of its ways, 23 in both, 22 before 23, 11
-/// before 22, and 2, 3, 4 and 5 where repeaters change them.
+/// The job of a plan with some bytes replaced, each given by its record and where it stands there.
+fn with_bytes(plan: &Plan, bytes: &[(usize, usize, u8)]) -> Vec<u8> {
+    let mut job = plan.bytes();
+    bytes.iter().for_each(|&(record, at, byte)| job[16 * record + at] = byte);
+    job
+}
+
+/// Jobs with repeaters, each with its number: those that pass, one of them with its last record taken for a weight;
+/// question 22 in each of its ways, 23 in both, 22 before 23, 11 before 22, and 2, 3, 4 and 5 where repeaters change them.
 pub fn repeated() -> Vec<(Vec<u8>, u64)> {
     // segments are the records 4 to 7, repeaters 8 and 9
-    let with = |bytes: &[(usize, usize, u8)]| {
-        let mut job = two_repeaters().bytes();
-        bytes.iter().for_each(|&(record, at, byte)| job[16 * record + at] = byte);
-        job
-    };
+    let with = |bytes: &[(usize, usize, u8)]| with_bytes(&two_repeaters(), bytes);
     let mut nine = two_repeaters();
     nine.repeaters = vec![[0, 0, 1]; 9];
     vec![
@@ -233,11 +237,110 @@ pub fn repeated() -> Vec<(Vec<u8>, u64)> {
         (with(&[(9, 4, 2)]), 23),
         (with(&[(9, 2, 4), (8, 4, 2)]), 22),
         (with(&[(7, 3, 0), (7, 8, 0), (7, 12, 0), (9, 2, 4), (9, 4, 2)]), 11),
-        (with(&[(9, 0, 6)]), 2),
+        (with(&[(9, 0, 6)]), 0),
         (with(&[(9, 0, 4)]), 2),
         (nine.bytes(), 3),
         (with(&[(9, 1, 0)]), 4),
         (with(&[(8, 5, 1)]), 5),
+    ]
+}
+
+/// A plan with weights, given with their segments.
+fn weighing(mut plan: Plan, weights: &[(u8, PlannedWeight)]) -> Plan {
+    plan.weights = weights.to_vec();
+    plan
+}
+
+/// J1 with a weight record: its delays are 208 and 206 times the count, and as they are where the weight is absent.
+pub fn weighed_j1(weight: PlannedWeight) -> Plan {
+    weighing(j1(), &[(0, weight)])
+}
+
+/// J5 with the weights 2 and 1 in place of 1 and 2. The stage adds 1 × 9, segment 0 adds 1 × (1/2 + 8), segment 1 adds 2 × (1 + 1)
+/// and segment 2 adds 3 × (3/2 + 2), so the sinks have 21.5 and 28, and 2 × (2 × 21.5 + 28) = 142.
+pub fn weighed_j5() -> Plan {
+    weighing(
+        j5(),
+        &[(1, PlannedWeight::Fraction(fraction(2))), (2, PlannedWeight::Whole(1))],
+    )
+}
+
+/// The job with one repeater and the weights 3 and 2, with sink 0 and sink 1 as in its table: 2 × (3 × 146 + 2 × 236) = 1,820,
+/// 2 × (3 × 146 + 2 × 237) = 1,824, 2 × (3 × 202 + 2 × 257) = 2,240 and 2 × (3 × 202 + 2 × 253) = 2,224.
+pub fn weighed_repeater() -> Plan {
+    weighing(
+        one_repeater(),
+        &[(0, PlannedWeight::Whole(3)), (1, PlannedWeight::Fraction(fraction(2)))],
+    )
+}
+
+/// The job with two repeaters, with the weight 128 at sink 1, 3 at sink 2, and the own 1 at sink 3. With both repeaters at size 0
+/// the sinks have 74.5, 105.5 and 91.5, and 2 × (128 × 74.5 + 3 × 105.5 + 91.5) = 19,888. Segments are the records 4 to 7,
+/// repeaters 8 and 9, weights 10 to 12.
+pub fn three_weights() -> Plan {
+    let half = PlannedWeight::Fraction(fraction(128));
+    weighing(
+        two_repeaters(),
+        &[(1, half), (2, PlannedWeight::Whole(3)), (3, PlannedWeight::Absent)],
+    )
+}
+
+/// The worked jobs with weights: each form, a tie with counts, no count and a layer of its own among them.
+pub fn with_weights() -> Vec<Plan> {
+    let half = PlannedWeight::Fraction(fraction(128));
+    let j1_weights = [
+        PlannedWeight::Absent,
+        PlannedWeight::Whole(3),
+        PlannedWeight::Fraction(fraction(2)),
+        PlannedWeight::Fraction(MINUS_ZERO),
+    ];
+    let others = [
+        weighing(j2(), &[(0, half)]),
+        weighing(j3(), &[(0, PlannedWeight::Fraction(fraction(255)))]),
+        weighing(j4(), &[(0, PlannedWeight::Whole(0))]),
+        weighed_j5(),
+        weighing(on_layer(1), &[(0, half)]),
+        weighed_repeater(),
+        weighing(weightless_behind(), &[(1, half)]),
+        weighing(tied_repeater(), &[(1, PlannedWeight::Absent)]),
+        three_weights(),
+    ];
+    j1_weights.map(weighed_j1).into_iter().chain(others).collect()
+}
+
+/// Jobs with weights, each with its number: two that pass, question 20 in each of its ways, 21 in each of its ways, 20 before 21
+/// in either order of the records, 11, 22 and 23 before both, and 2, 4 and 5 where weights change them.
+pub fn weighed() -> Vec<(Vec<u8>, u64)> {
+    // the fraction 1/2 has the bytes 0xe0 and 0x3f last
+    let with = |bytes: &[(usize, usize, u8)]| with_bytes(&three_weights(), bytes);
+    vec![
+        (with(&[]), 0),
+        (with(&[(10, 14, 0), (10, 15, 0x80)]), 0),
+        (with(&[(12, 1, 4)]), 20),
+        (with(&[(10, 1, 0)]), 20),
+        (with(&[(12, 2, 3)]), 20),
+        (with(&[(11, 5, 1)]), 20),
+        (with(&[(10, 14, 0xf8), (10, 15, 0x7f)]), 21),
+        (with(&[(10, 14, 0xf0), (10, 15, 0x7f)]), 21),
+        (with(&[(10, 15, 0xbf)]), 21),
+        (with(&[(10, 8, 1), (10, 14, 0), (10, 15, 0)]), 21),
+        (with(&[(10, 14, 0xf0)]), 21),
+        (with(&[(10, 8, 1)]), 21),
+        (with(&[(10, 14, 0x60)]), 21),
+        (with(&[(10, 8, 1), (12, 2, 3)]), 20),
+        (with(&[(10, 1, 0), (12, 2, 2), (12, 8, 1)]), 20),
+        (with(&[(7, 3, 0), (7, 8, 0), (7, 12, 0), (10, 8, 1)]), 11),
+        (with(&[(9, 2, 4), (10, 8, 1), (12, 2, 3)]), 22),
+        (with(&[(9, 4, 2), (10, 8, 1), (12, 2, 3)]), 23),
+        (with(&[(12, 0, 7)]), 2),
+        (with(&[(12, 0, 5)]), 2),
+        (with(&[(12, 1, 2)]), 4),
+        (with(&[(10, 1, 2), (11, 1, 1)]), 4),
+        (with(&[(10, 3, 1)]), 5),
+        (with(&[(10, 4, 1)]), 5),
+        (with(&[(11, 8, 1)]), 5),
+        (with(&[(12, 4, 1)]), 5),
+        (with(&[(12, 2, 3), (12, 15, 1)]), 5),
     ]
 }
 

@@ -9,8 +9,8 @@ use std::os::unix::net::UnixStream;
 use std::path::PathBuf;
 use std::process::{Command, Output, Stdio};
 
+use numlejka_tests::batches::{job_of, largest_weighed_calls};
 use numlejka_tests::limits::largest_plans;
-use numlejka_tests::plan::Plan;
 use numlejka_tests::questions::{self, MOST_PLACES};
 use numlejka_tests::reference;
 use numlejka_tests::reference_bounds::way_for;
@@ -89,14 +89,16 @@ fn printed(job: &[u8]) -> String {
     text
 }
 
-/// The jobs: worked, refused, with repeaters, with as many places as there can be, at the limit of room, too long, and the
+/// The jobs: worked, refused, with repeaters, with weights, with as many places as there can be, at the limit of room, too long, and the
 /// examples.
 fn jobs() -> Vec<Vec<u8>> {
     let mut jobs: Vec<Vec<u8>> = worked::named().into_iter().map(|(_, plan)| plan.bytes()).collect();
-    jobs.extend(worked::with_repeaters().iter().map(Plan::bytes));
-    jobs.extend(worked::repeated().into_iter().map(|(job, _)| job));
+    let behind = worked::with_repeaters().into_iter().chain(worked::with_weights());
+    jobs.extend(behind.map(|plan| plan.bytes()));
+    jobs.extend(worked::repeated().into_iter().chain(worked::weighed()).map(|(job, _)| job));
     let largest = largest_plans().into_iter().filter(|(_, plan)| plan.places() == MOST_PLACES);
     jobs.extend(largest.step_by(7).map(|(_, plan)| plan.bytes()));
+    jobs.extend(largest_weighed_calls().iter().step_by(40).map(|call| job_of(call).to_vec()));
     jobs.push(worked::clock().bytes());
     jobs.push(worked::weightless(8).bytes());
     jobs.push(worked::weightless(9).bytes());
@@ -149,6 +151,13 @@ fn sizer_reply_writes_the_reply_or_a_line_on_standard_error() {
 fn a_repeater_has_its_line() {
     let output = run("sizer", &worked::tied_repeater().bytes());
     let lines = "answer 0\ndelay 2964\nstage 0 0 0 0 0\nsegment 0 0 0 0 0\nsegment 1 0 0 0 0\nrepeater 0 0 1 0 1\n";
+    assert_eq!(String::from_utf8_lossy(&output.stdout), lines);
+}
+
+#[test]
+fn a_weight_has_no_line() {
+    let output = run("sizer", &worked::weighed_repeater().bytes());
+    let lines = "answer 0\ndelay 1820\nstage 0 0 0 0 0\nsegment 0 0 0 0 0\nsegment 1 0 0 0 0\nrepeater 0 0 0 0 0\n";
     assert_eq!(String::from_utf8_lossy(&output.stdout), lines);
 }
 

@@ -1,16 +1,21 @@
 //! Tests of the reference itself: the worked jobs, the two ways to the bounds, the limits, and what the generators reach.
 
 use numlejka_tests::batches::{
-    BEFORE_FAULTS, CHAINED, Counts, EIGHT_REPEATERS, LAYER_1, LAYER_FAULTS, MOST_ALLOWED, ONE_BEST_REPEATER, REPEATER_FAULTS,
-    REPEATERS, STRAY_SINK, TIE_AT_REPEATER, TIE_IN_CHAIN, WEIGHTLESS_BEHIND, count_expected, damaged_calls,
-    damaged_repeater_calls, fault_calls, job_of, limit_calls, repeated_calls, repeater_calls, repeater_limit_calls,
-    repeater_room_calls, room_calls, roomy_with, small_calls, worked_calls,
+    ABSENT, ALL_WEIGHED, BEFORE_FAULTS, BEFORE_WEIGHT_FAULTS, CHAINED, Counts, EIGHT_REPEATERS, FRACTION, LAYER_1, LAYER_FAULTS,
+    MINUS_ZERO_MET, MOST_ALLOWED, ONE_BEST_REPEATER, OTHER_COUNT, REPEATER_FAULTS, REPEATERS, STRAY_SINK, TIE_AT_REPEATER,
+    TIE_IN_CHAIN, WEIGHED_REPEATERS, WEIGHT_FAULTS, WEIGHTLESS_BEHIND, WHOLE, count_expected, damaged_calls,
+    damaged_repeater_calls, damaged_weighed_calls, fault_calls, job_of, limit_calls, repeated_calls, repeater_calls,
+    repeater_limit_calls, repeater_room_calls, room_calls, roomy_with, small_calls, weighed_calls, weighed_room_calls,
+    weight_fault_calls, weight_limit_calls, worked_calls, worked_weight_calls,
 };
 use numlejka_tests::calls::{Call, expected};
-use numlejka_tests::generate::{allowed_sizing, large_plan, large_repeater_plan, marked, repeater_plan, small_plan};
-use numlejka_tests::limits::{largest_plans, limits, repeater_limits};
-use numlejka_tests::plan::{Plan, segment_with_sink, segment_without_sink};
-use numlejka_tests::questions::{MOST_PLACES, MOST_UNREPEATED, Net, first_no, read};
+use numlejka_tests::fractions::{MINUS_ZERO, fraction, neighbours, refused as refused_fractions};
+use numlejka_tests::generate::{
+    allowed_sizing, large_plan, large_repeater_plan, marked, repeater_plan, small_plan, weighed_plan,
+};
+use numlejka_tests::limits::{largest_plans, limits, repeater_limits, weight_limits};
+use numlejka_tests::plan::{Plan, PlannedWeight, segment_with_sink, segment_without_sink};
+use numlejka_tests::questions::{MOST_PLACES, MOST_UNREPEATED, Net, first_no, fraction_count, fraction_fault, read};
 use numlejka_tests::random::{Random, SEED};
 use numlejka_tests::reference::{
     Bounds, Choice, EXHAUSTIVE, Least, Side, Tie, choose, chosen, exhaustive_bounds, exhaustive_least, load_figure, measure,
@@ -18,8 +23,8 @@ use numlejka_tests::reference::{
 };
 use numlejka_tests::reference_bounds::{SWEPT, least_between, swept_bounds};
 use numlejka_tests::worked::{
-    clock, j1, j2, j3, j4, j5, layered, on_layer, one_repeater, refused, repeated, tied_repeater, two_repeaters, weightless,
-    weightless_behind,
+    clock, j1, j2, j3, j4, j5, layered, on_layer, one_repeater, refused, repeated, three_weights, tied_repeater, two_repeaters,
+    weighed, weighed_j1, weighed_j5, weighed_repeater, weightless, weightless_behind,
 };
 
 /// The net of a plan that passes its questions.
@@ -205,6 +210,135 @@ fn worked_jobs_with_repeaters_get_their_numbers() {
     }
 }
 
+/// J1 with a weight record: the count multiplies its delays; nothing else of it changes.
+#[test]
+fn a_weight_record_counts_in_place_of_the_own_byte() {
+    let delays = |weight: PlannedWeight| [0, 1].map(|width| delay(&weighed_j1(weight), &[0, width]));
+    assert_eq!(delays(PlannedWeight::Absent), [208, 206]);
+    assert_eq!(delays(PlannedWeight::Fraction(fraction(2))), [416, 412]);
+    assert_eq!(delays(PlannedWeight::Whole(3)), [624, 618]);
+    assert_eq!(delays(PlannedWeight::Whole(1)), [208, 206]);
+    assert_eq!(delays(PlannedWeight::Fraction(fraction(255))), [53_040, 52_530]);
+    assert_eq!(delays(PlannedWeight::Whole(255)), [53_040, 52_530]);
+    for zero in [
+        PlannedWeight::Whole(0),
+        PlannedWeight::Fraction(0),
+        PlannedWeight::Fraction(MINUS_ZERO),
+    ] {
+        assert_eq!(delays(zero), [0, 0]);
+        assert_eq!(least(&weighed_j1(zero)), (0, vec![0, 0], vec![0, 1]));
+    }
+    let twice = weighed_j1(PlannedWeight::Fraction(fraction(2)));
+    assert_eq!(least(&twice), (412, vec![0, 1], vec![0, 1]));
+    assert_eq!(measure(&twice.bytes(), &[0, 0]).load, measure(&j1().bytes(), &[0, 0]).load);
+    assert_eq!(refine(&twice.bytes(), &[0, 0], 1).tie, tie(1, 1, 412));
+    assert_eq!(refine(&twice.bytes(), &[0, 0], 2).number, 17);
+    assert_eq!(chosen(&twice.bytes(), &[0, 0], &[0, 1, 9]), [0, 1]);
+    let mut reply = marked(24);
+    assert_eq!(size(&twice.bytes(), &mut reply, &EXHAUSTIVE), 0);
+    let records = [412u64.to_le_bytes(), [0; 8], [1, 1, 1, 1, 0, 0, 0, 0]].concat();
+    assert_eq!(reply, records);
+}
+
+/// The delays that are worked out for other jobs with weights, and the numbers of the worked jobs with weights.
+#[test]
+fn worked_jobs_with_weights_get_their_delays_and_numbers() {
+    assert_eq!(delay(&weighed_j5(), &[0, 0, 0, 0]), 142);
+    let sizings = [[0, 0, 0, 0], [0, 0, 1, 0], [0, 0, 0, 1], [0, 0, 1, 1]];
+    let found = sizings.map(|sizing| delay(&weighed_repeater(), &sizing));
+    assert_eq!(found, [1_820, 1_824, 2_240, 2_224]);
+    assert_eq!(delay(&three_weights(), &[0; 7]), 19_888);
+    for (job, number) in weighed() {
+        assert_eq!(first_no(&job), number, "{job:?}");
+    }
+}
+
+/// Every count from 0 to 255 is read off the bits of its fraction, and nothing next to it is one; nor is anything of the list.
+#[test]
+fn the_bits_of_a_fraction_tell_its_count() {
+    for count in 0..=255 {
+        let bits = fraction(count);
+        assert_eq!(fraction_count(bits), Some(count.into()));
+        assert_eq!(neighbours(count).map(fraction_count), [None, None]);
+        if count > 0 {
+            assert_eq!(neighbours(count), [bits - 1, bits + 1]);
+            assert_eq!(fraction_count(MINUS_ZERO | bits), None);
+        }
+    }
+    // by hand: 1/256 is 2 to -8, so the exponent field is 1,023 - 8; 255/256 is 1.1111111 in binary, times 2 to -1
+    assert_eq!(fraction_count((1_023 - 8) << 52), Some(1));
+    assert_eq!(fraction_count((1_023 - 7) << 52), Some(2));
+    assert_eq!(fraction_count((1_023 - 7) << 52 | 1 << 51), Some(3));
+    assert_eq!(fraction_count((1_023 - 1) << 52), Some(128));
+    assert_eq!(fraction_count((1_023 - 1) << 52 | 0b111_1111 << 45), Some(255));
+    assert_eq!(fraction_count((1_023 - 1) << 52 | 0b1111_1111 << 44), None);
+    assert_eq!(fraction_count(1_023 << 52), None);
+    assert_eq!([0, MINUS_ZERO].map(fraction_count), [Some(0), Some(0)]);
+    for (name, bits) in refused_fractions() {
+        assert_eq!(fraction_count(bits), None, "{name}");
+        assert!(fraction_fault(bits).is_some(), "{name}");
+    }
+}
+
+/// What the bits tell is what the machine's arithmetic tells: on bits of every exponent field, with few bits behind it and with
+/// many, of both signs.
+#[test]
+fn the_machine_counts_the_same() {
+    let mut random = Random::new(8);
+    let mut counted = 0;
+    for exponent in 0..0x800 {
+        for _ in 0..600 {
+            let behind = (random.bits() >> 12) & (u64::MAX << random.below(53));
+            for bits in [exponent << 52 | behind, 1 << 63 | exponent << 52 | behind] {
+                let product = 256.0 * f64::from_bits(bits);
+                let whole = (0..=255_u32).find(|&count| f64::from(count) == product);
+                assert_eq!(fraction_count(bits), whole.map(u64::from), "{bits:#x}");
+                counted += usize::from(whole.is_some());
+            }
+        }
+    }
+    println!("{counted} counts");
+    assert!(counted > 500);
+}
+
+/// The count that a planned weight has, by the machine's arithmetic.
+fn planned_count(weight: PlannedWeight) -> Option<u8> {
+    match weight {
+        PlannedWeight::Absent => None,
+        PlannedWeight::Whole(number) => Some(number as u8),
+        PlannedWeight::Fraction(bits) => Some((256.0 * f64::from_bits(bits)) as u8),
+    }
+}
+
+/// A job with weights is answered as the same without them whose own bytes are the counts, by every operation.
+#[test]
+fn weights_stand_for_own_bytes() {
+    let mut random = Random::new(9);
+    let mut others = 0;
+    for _ in 0..3_000 {
+        let plan = weighed_plan(&mut random, MOST_ALLOWED);
+        let mut own = plan.clone();
+        for (segment, weight) in own.weights.split_off(0) {
+            let byte = &mut own.segments[usize::from(segment)].weight;
+            let count = planned_count(weight).unwrap_or(*byte);
+            others += usize::from(count != *byte);
+            *byte = count;
+        }
+        let (job, own) = (plan.bytes(), own.bytes());
+        let (x, y) = (allowed_sizing(&mut random, &plan), allowed_sizing(&mut random, &plan));
+        assert_eq!(measure(&job, &x), measure(&own, &x));
+        for place in 0..=plan.places() {
+            assert_eq!(refine(&job, &x, place), refine(&own, &x, place));
+        }
+        assert_eq!(choose(&job, &x, &y), choose(&own, &x, &y));
+        let [mut reply, mut of_own] = [marked(700), marked(700)];
+        assert_eq!(size(&job, &mut reply, &EXHAUSTIVE), size(&own, &mut of_own, &EXHAUSTIVE));
+        assert_eq!(reply, of_own);
+    }
+    println!("{others} weights other than the own byte");
+    assert!(others > 3_000);
+}
+
 /// The load figure has the gate and the output of each repeater once, each in digits of its own, beside those of the stages.
 #[test]
 fn each_repeater_is_counted_once() {
@@ -386,23 +520,23 @@ fn short_sizings_and_far_places_get_15_16_17() {
 /// Every field and count at its limit and beyond.
 #[test]
 fn every_limit_gets_its_number() {
-    for limit in limits().into_iter().chain(repeater_limits()) {
+    for limit in limits().into_iter().chain(repeater_limits()).chain(weight_limits()) {
         assert_eq!(first_no(&limit.job), limit.number, "{}", limit.name);
     }
 }
 
-/// 22 and 23 come before 12 and before 14 to 17, in jobs among which some have too much room.
+/// 20 to 23 come before 12 and before 14 to 17, in jobs among which some have too much room.
 #[test]
-fn faults_of_repeaters_come_before_the_operations_own_questions() {
+fn faults_come_before_the_operations_own_questions() {
     let sound = roomy_with(&mut Random::new(17), [6, 0, 15]);
     assert_eq!(size(&sound, &mut marked(8 * (1 + MOST_PLACES)), &SWEPT), 14);
-    for call in fault_calls() {
+    for call in fault_calls().into_iter().chain(weight_fault_calls()) {
         let number = expected(&call).number;
         match call {
             Call::Choose { .. } => assert_eq!(number, 0),
             _ => assert_eq!(number, first_no(job_of(&call))),
         }
-        assert!(matches!(first_no(job_of(&call)), 22 | 23));
+        assert!(matches!(first_no(job_of(&call)), 20..=23));
     }
 }
 
@@ -433,7 +567,10 @@ fn both_ways_agree(mut random: Random, jobs: usize, make: fn(&mut Random, u128) 
         assert_eq!(swept_bounds(&net), bounds, "{case}");
         assert_eq!(least_between(&net, &bounds), found, "{case}");
         check_theory(&net, &bounds, &found);
-        let weighted = plan.segments.iter().any(|segment| segment.weight != 0);
+        let weighted = net
+            .segments
+            .iter()
+            .any(|segment| segment.sink.as_ref().is_some_and(|sink| sink.weight != 0));
         ties += usize::from(weighted && found.lean != found.wide);
         gaps += usize::from(weighted && (bounds.lower != found.lean || bounds.upper != found.wide));
         several_rooms += usize::from(weighted && room(&bounds) > 1);
@@ -453,6 +590,13 @@ fn both_ways_agree_on_small_jobs() {
 #[test]
 fn both_ways_agree_on_jobs_with_repeaters() {
     let [ties, gaps, _] = both_ways_agree(Random::new(7), 3_000, repeater_plan);
+    assert!(ties > 100 && gaps > 100);
+}
+
+/// Small jobs with weights, with repeaters and without.
+#[test]
+fn both_ways_agree_on_jobs_with_weights() {
+    let [ties, gaps, _] = both_ways_agree(Random::new(10), 3_000, weighed_plan);
     assert!(ties > 100 && gaps > 100);
 }
 
@@ -518,8 +662,8 @@ fn the_clock_net_is_answered() {
 }
 
 /// The generated calls reach every number of every operation, and no other; a stray sink alone each of 6 to 10, and no other;
-/// 24, 22 and 23 in each of their ways; 3, 4, 7 and 10 for layer 1 alone; a fault of repeaters behind each number of a job but 1,
-/// 22 before 23 too; and what there is to meet at repeaters.
+/// 24 and 20 to 23 in each of their ways; 3, 4, 7 and 10 for layer 1 alone; a fault of repeaters and one of weights behind each
+/// number of a job but 1, 22 before 23 and 20 before 21 too; and what there is to meet at repeaters and at weights.
 #[test]
 fn every_number_is_reached() {
     let mut counts = Counts::new();
@@ -543,27 +687,47 @@ fn every_number_is_reached() {
     count_expected(&mut counts, &repeated_calls());
     count_expected(&mut counts, &repeater_room_calls());
     count_expected(&mut counts, &fault_calls());
+    for _ in 0..10_000 {
+        count_expected(&mut counts, &damaged_weighed_calls(&mut random, MOST_ALLOWED));
+    }
+    for _ in 0..500 {
+        count_expected(&mut counts, &weighed_calls(&mut random, MOST_ALLOWED));
+    }
+    count_expected(&mut counts, &weight_limit_calls());
+    count_expected(&mut counts, &worked_weight_calls());
+    count_expected(&mut counts, &weighed_room_calls());
+    count_expected(&mut counts, &weight_fault_calls());
     for ((operation, number), times) in &counts {
         println!("{operation} {number}: {times}");
     }
     let reached = |operation: &str| -> Vec<u64> { counts.keys().filter(|key| key.0 == operation).map(|key| key.1).collect() };
-    assert_eq!(reached("size"), (0..=12).chain([14, 22, 23, 24]).collect::<Vec<u64>>());
-    assert_eq!(reached("measure"), (0..=11).chain([15, 16, 22, 23, 24]).collect::<Vec<u64>>());
-    assert_eq!(
-        reached("refine"),
-        (0..=11).chain([15, 16, 17, 22, 23, 24]).collect::<Vec<u64>>()
-    );
+    let numbers = |own: &[u64]| -> Vec<u64> { (0..=11).chain(own.iter().copied()).chain(20..=24).collect() };
+    assert_eq!(reached("size"), numbers(&[12, 14]));
+    assert_eq!(reached("measure"), numbers(&[15, 16]));
+    assert_eq!(reached("refine"), numbers(&[15, 16, 17]));
     assert_eq!(reached("choose"), [0, 1, 2]);
     assert_eq!(reached(STRAY_SINK), [6, 7, 8, 9, 10]);
     for way in LAYER_FAULTS {
         assert!(counts.keys().any(|key| key.0 == way), "{way}");
     }
     assert_eq!(reached(LAYER_1), [3, 4, 7, 10]);
-    for (way, name) in REPEATER_FAULTS.into_iter().enumerate() {
-        assert_eq!(reached(name), [if way < 4 { 22 } else { 23 }], "{name}");
+    for (number, name) in REPEATER_FAULTS.into_iter().chain(WEIGHT_FAULTS) {
+        assert_eq!(reached(name), [number], "{name}");
     }
     assert_eq!(reached(BEFORE_FAULTS), (2..=11).chain([22, 24]).collect::<Vec<u64>>());
-    for kind in [REPEATERS, EIGHT_REPEATERS, CHAINED, WEIGHTLESS_BEHIND] {
+    assert_eq!(
+        reached(BEFORE_WEIGHT_FAULTS),
+        (2..=11).chain([20, 22, 23, 24]).collect::<Vec<u64>>()
+    );
+    for kind in [REPEATERS, EIGHT_REPEATERS, CHAINED, WEIGHTLESS_BEHIND].into_iter().chain([
+        ABSENT,
+        WHOLE,
+        FRACTION,
+        MINUS_ZERO_MET,
+        OTHER_COUNT,
+        WEIGHED_REPEATERS,
+        ALL_WEIGHED,
+    ]) {
         assert!(counts.contains_key(&(kind, 0)), "{kind}");
     }
     for kind in [ONE_BEST_REPEATER, TIE_AT_REPEATER, TIE_IN_CHAIN] {

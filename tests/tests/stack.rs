@@ -5,8 +5,9 @@
 use std::ffi::{c_int, c_void};
 use std::ptr::{null, null_mut};
 
+use numlejka_tests::fractions::MINUS_ZERO;
 use numlejka_tests::interface::{choose, measure, refine, size};
-use numlejka_tests::plan::{Plan, segment_with_sink};
+use numlejka_tests::plan::{Plan, PlannedWeight, segment_with_sink};
 
 /// What the header says to be enough for a call.
 const ENOUGH: usize = 24 * 1024;
@@ -81,16 +82,27 @@ fn deepest(repeaters: u8) -> Plan {
     }
 }
 
-/// Measures each operation on the deepest job with so many repeaters.
-fn check(repeaters: u8) {
-    let plan = deepest(repeaters);
+/// The same with a weight of 0 for each of the 64 sinks in place of an own byte of 255.
+fn deepest_weighed(repeaters: u8) -> Plan {
+    let mut plan = deepest(repeaters);
+    plan.segments.iter_mut().for_each(|segment| segment.weight = 255);
+    plan.weights = (0..64).map(|i| (i, PlannedWeight::Fraction(MINUS_ZERO))).collect();
+    plan
+}
+
+/// Measures each operation on a deepest job.
+fn check(plan: &Plan) {
+    let (repeaters, weights) = (plan.repeaters.len(), plan.weights.len());
     let (job, places) = (plan.bytes(), plan.places());
     let (x, y) = (vec![0; places], vec![0; places]);
     let (mut figures, mut ends, mut reply) = ([0; 16], [0; 10], vec![0; 8 * (1 + places)]);
     let (_, own) = painted(&mut || 0);
     let check = |name: &str, wanted: u64, call: &mut dyn FnMut() -> u64| {
         let (number, used) = painted(call);
-        println!("stack of {name}, {repeaters} repeaters: {} bytes", used - own);
+        println!(
+            "stack of {name}, {repeaters} repeaters, {weights} weights: {} bytes",
+            used - own
+        );
         assert_eq!(number, wanted);
         assert!(used - own <= ENOUGH);
     };
@@ -103,10 +115,15 @@ fn check(repeaters: u8) {
 
 #[test]
 fn a_call_needs_little_stack() {
-    check(0);
+    check(&deepest(0));
 }
 
 #[test]
 fn a_call_with_repeaters_needs_little_stack() {
-    check(8);
+    check(&deepest(8));
+}
+
+#[test]
+fn a_call_with_weights_needs_little_stack() {
+    check(&deepest_weighed(8));
 }

@@ -1,10 +1,12 @@
 //! Writes a file of framed calls and a file of the lines that they have to give.
 
 use numlejka_tests::batches::{
-    BOTH_LAYERS, CHAINED, Counts, LAYER_FAULTS, ONE_BEST_REPEATER, OUTPUTS, REPEATER_FAULTS, REPEATERS, STRAY_SINK,
-    TIE_AT_REPEATER, WEIGHTLESS_BEHIND, count_expected, damaged_calls, damaged_repeater_calls, fault_calls, job_of, large_calls,
-    large_repeater_calls, limit_calls, repeated_calls, repeater_calls, repeater_limit_calls, repeater_room_calls, room_calls,
-    small_calls, worked_calls,
+    ABSENT, BOTH_LAYERS, CHAINED, Counts, FRACTION, LAYER_FAULTS, MINUS_ZERO_MET, ONE_BEST_REPEATER, OTHER_COUNT, OUTPUTS,
+    REPEATER_FAULTS, REPEATERS, STRAY_SINK, TIE_AT_REPEATER, WEIGHED_REPEATERS, WEIGHT_FAULTS, WEIGHTLESS_BEHIND, WHOLE,
+    count_expected, damaged_calls, damaged_repeater_calls, damaged_weighed_calls, fault_calls, job_of, large_calls,
+    large_repeater_calls, large_weighed_calls, limit_calls, repeated_calls, repeater_calls, repeater_limit_calls,
+    repeater_room_calls, room_calls, small_calls, weighed_calls, weighed_room_calls, weight_fault_calls, weight_limit_calls,
+    worked_calls, worked_weight_calls,
 };
 use numlejka_tests::calls::Call;
 use numlejka_tests::random::{Random, SEED};
@@ -13,7 +15,7 @@ use numlejka_tests::random::{Random, SEED};
 const SHORT_JOB: usize = 30 * 16;
 
 /// The most bytes of all frames.
-const MOST_BYTES: usize = 1_150_000;
+const MOST_BYTES: usize = 1_280_000;
 
 /// The most allowed sizings of a job, few so that a slow program is done soon.
 const MOST_ALLOWED: u128 = 200;
@@ -71,12 +73,26 @@ fn calls_with_repeaters(random: &mut Random) -> Vec<Call> {
     calls
 }
 
+/// The calls with weights: worked, small, damaged, at the limits, refused, with more records, and with much room.
+fn calls_with_weights(random: &mut Random) -> Vec<Call> {
+    let mut calls = every(5, worked_weight_calls());
+    calls.extend((0..14).flat_map(|_| weighed_calls(random, MOST_ALLOWED)));
+    calls.extend((0..16).flat_map(|_| damaged_weighed_calls(random, MOST_ALLOWED)));
+    calls.extend(every(151, weight_limit_calls()));
+    calls.extend(every(11, weight_fault_calls()));
+    calls.retain(|call| job_of(call).len() <= SHORT_JOB);
+    calls.extend(every(61, large_weighed_calls(random)));
+    calls.extend(every(31, weighed_room_calls()));
+    calls
+}
+
 /// All calls of the file.
 fn all_calls() -> Vec<Call> {
     let mut random = Random::new(31);
     let mut calls = short_calls(&mut random);
     calls.extend(longer_calls(&mut random));
     calls.extend(calls_with_repeaters(&mut Random::new(32)));
+    calls.extend(calls_with_weights(&mut Random::new(33)));
     calls.into_iter().map(framed).collect()
 }
 
@@ -95,13 +111,13 @@ fn main() -> std::io::Result<()> {
     count_expected(&mut counts, &calls);
     assert!(
         (0..=12)
-            .chain([14, 22, 23, 24])
+            .chain([14, 20, 21, 22, 23, 24])
             .all(|number| counts.contains_key(&("size", number))),
         "every question of size is reached"
     );
     assert!(
         (0..=11)
-            .chain([15, 16, 17, 22, 23, 24])
+            .chain([15, 16, 17, 20, 21, 22, 23, 24])
             .all(|number| counts.contains_key(&("refine", number))),
         "every question of refine is reached"
     );
@@ -119,8 +135,11 @@ fn main() -> std::io::Result<()> {
     );
     assert!(counts[&(BOTH_LAYERS, 0)] >= 100, "many calls have segments on both layers");
     assert!(
-        REPEATER_FAULTS.iter().all(|way| counts.keys().any(|key| key.0 == *way)),
-        "22 and 23 come in each of their ways"
+        REPEATER_FAULTS
+            .iter()
+            .chain(&WEIGHT_FAULTS)
+            .all(|&(number, way)| counts.contains_key(&(way, number))),
+        "20 to 23 come in each of their ways"
     );
     for (kind, least) in [
         (REPEATERS, 100),
@@ -128,6 +147,12 @@ fn main() -> std::io::Result<()> {
         (WEIGHTLESS_BEHIND, 20),
         (ONE_BEST_REPEATER, 10),
         (TIE_AT_REPEATER, 2),
+        (ABSENT, 30),
+        (WHOLE, 30),
+        (FRACTION, 60),
+        (MINUS_ZERO_MET, 5),
+        (OTHER_COUNT, 60),
+        (WEIGHED_REPEATERS, 30),
     ] {
         assert!(counts[&(kind, 0)] >= least, "{kind}");
     }
