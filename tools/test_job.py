@@ -5,10 +5,12 @@ import importlib.machinery
 import importlib.util
 import pathlib
 import random
+import struct
 import subprocess
 import sys
 import tempfile
 import unittest
+from fractions import Fraction
 
 sys.dont_write_bytecode = True
 HERE = pathlib.Path(__file__).resolve().parent
@@ -43,6 +45,16 @@ def word(value):
     return value.to_bytes(4, "little")
 
 
+def bits(value):
+    """Gives the bits of a binary64 as a whole number."""
+    return int.from_bytes(struct.pack("<d", value), "little")
+
+
+def weight_record(segment, form, whole=0, fraction=0):
+    """Gives a weight record; the fraction is its bits."""
+    return bytes([6, segment, form, 0]) + word(whole) + fraction.to_bytes(8, "little")
+
+
 def random_range(rng, count):
     """Gives lowest and highest index below count."""
     return sorted(rng.randrange(count) for _ in range(2))
@@ -63,8 +75,17 @@ def random_segment(rng, number, parent, leaf, widths):
     return head + bytes([weight, *random_range(rng, widths[layer]), layer])
 
 
-def random_job(rng, most_of_layer_1, most_repeaters=0):
-    """Gives a job that passes questions 1 to 11 and 22 to 24."""
+def random_weight(rng, segment):
+    """Gives a weight record of a form at random; a fraction is a count of 256ths, 0 sometimes minus zero."""
+    count = rng.randrange(256) if rng.random() < 0.9 else 0
+    value = -0.0 if count == 0 and rng.random() < 0.5 else count / 256
+    return rng.choice(
+        [weight_record(segment, 0), weight_record(segment, 1, count), weight_record(segment, 2, 0, bits(value))]
+    )
+
+
+def random_job(rng, most_of_layer_1, most_repeaters=0, most_weights=0):
+    """Gives a job that passes questions 1 to 11 and 20 to 24."""
     sizes, stages, segments = (rng.randint(1, most) for most in (16, 4, 64))
     widths = [rng.randint(1, 8), rng.randint(0, most_of_layer_1)]
     records = [
@@ -80,17 +101,20 @@ def random_job(rng, most_of_layer_1, most_repeaters=0):
         lowest, highest = random_range(rng, sizes)
         records.append(bytes([3, at, lowest, highest if at else lowest]) + bytes(12))
     parents = [rng.randint(0, at) for at in range(segments)]
-    for at, parent in enumerate(parents):
-        records.append(random_segment(rng, at, parent, at + 1 not in parents, widths))
+    net = [random_segment(rng, at, parent, at + 1 not in parents, widths) for at, parent in enumerate(parents)]
+    records += net
     sites = [at for at in range(segments) if at + 1 in parents]
     repeaters = sorted(rng.sample(sites, rng.randint(0, min(most_repeaters, len(sites)))))
     records += [bytes([5, at, site, *random_range(rng, sizes)]) + bytes(11) for at, site in enumerate(repeaters)]
+    sinks = [segment[1] for segment in net if segment[3]]
+    weighted = sorted(rng.sample(sinks, rng.randint(0, min(most_weights, len(sinks)))))
+    records += [random_weight(rng, segment) for segment in weighted]
     return b"".join(records)
 
 
 def random_record(rng, counts):
     """Gives a record near a valid one: most bytes zero, most numbers in order."""
-    kind = rng.choice([1, 2, 3, 4, 4, 4, 5, rng.randrange(256)])
+    kind = rng.choice([1, 2, 3, 4, 4, 4, 5, 6, 6, rng.randrange(256)])
     record = bytearray(16)
     record[0] = kind
     for _ in range(rng.randrange(6)):
@@ -112,7 +136,7 @@ class Examples(unittest.TestCase):
 
     def test_all_there(self):
         names = {path.stem for path in EXAMPLES.glob("*.txt")}
-        self.assertLessEqual({"j1", "j2", "j3", "j4", "j5", "clock", "two_layers", "repeaters"}, names)
+        self.assertLessEqual({"j1", "j2", "j3", "j4", "j5", "clock", "two_layers", "repeaters", "weights"}, names)
 
     def test_text_gives_job(self):
         for path in EXAMPLES.glob("*.txt"):
@@ -151,6 +175,17 @@ class Examples(unittest.TestCase):
         parents = [record[2] for record in records if record[0] == 4]
         for site in (record[2] for record in repeaters):
             self.assertIn(1 + site, parents)
+
+    def test_weights(self):
+        data = (EXAMPLES / "weights.job").read_bytes()
+        self.assertEqual([data[at] for at in range(len(data) - 96, len(data), 16)], [4, 6, 6, 6, 6, 6])
+        expected = """
+            06 03 02 00  00 00 00 00  00 00 00 00  00 00 e0 3f
+            06 04 02 00  00 00 00 00  00 00 00 00  00 00 d0 3f
+            06 06 01 00  19 00 00 00  00 00 00 00  00 00 00 00
+            06 07 02 00  00 00 00 00  00 00 00 00  00 00 9c 3f
+            06 08 00 00  00 00 00 00  00 00 00 00  00 00 00 00"""
+        self.assertEqual(data[-80:], bytes.fromhex(expected))
 
 
 class Text(unittest.TestCase):
@@ -353,14 +388,173 @@ class Repeaters(Exact):
             job.pack("repeater segment 0 size 0\n" * 257)
 
 
-class Bytes(unittest.TestCase):
-    """Whole records come back as they were."""
+class Returning(unittest.TestCase):
+    """Bytes that come back from their text."""
 
     def returns(self, data):
         """Asks that bytes come back from their text, and gives the text."""
         text = job.unpack(data)
         self.assertEqual(job.pack(text), data)
         return text
+
+
+class Weights(Exact, Returning):
+    """The lines of weights."""
+
+    def shown(self, pattern):
+        """Gives the word behind `fraction`, or `raw`, for the bits of a binary64 that come back from their text."""
+        text = self.returns(weight_record(3, 2, 0, pattern))
+        start = "weight segment 3 fraction "
+        self.assertTrue(text.startswith(start) or text.startswith("raw 06 03 02 00 "))
+        return text[len(start) : -1] if text.startswith(start) else "raw"
+
+    def test_each_form(self):
+        self.gives(
+            "segment parent source length 1 width 0 sink capacitance 4 weight 9\n"
+            "repeater segment 0 size 0\n"
+            "weight segment 3 absent\n"
+            "weight segment 4 whole 7\n"
+            "weight segment 5 fraction 0.02734375\n",
+            """
+            04 00 00 01  01 00 00 00  04 00 00 00  09 00 00 00
+            05 00 00 00  00 00 00 00  00 00 00 00  00 00 00 00
+            06 03 00 00  00 00 00 00  00 00 00 00  00 00 00 00
+            06 04 01 00  07 00 00 00  00 00 00 00  00 00 00 00
+            06 05 02 00  00 00 00 00  00 00 00 00  00 00 9c 3f""",
+        )
+
+    def test_in_any_order(self):
+        for form in ("absent", "whole 7", "fraction 0.5"):
+            line = f"weight segment 3 {form}"
+            self.assertEqual(job.pack(f"weight {form} segment 3"), job.pack(line))
+            self.assertEqual(job.unpack(job.pack(line)), line + "\n")
+
+    def test_the_segment_is_given_and_not_counted(self):
+        numbers = [9, 3, 3, 0, 255]
+        text = "".join(f"weight segment {number} absent\n" for number in numbers)
+        self.gives(text, "".join(f"06 {number:02x}" + " 00" * 14 for number in numbers))
+
+    def test_more_than_256(self):
+        text = "weight segment 0 whole 1\n" * 257
+        self.assertEqual(self.returns(job.pack(text)), text)
+
+    def test_weights_are_not_counted_with_other_kinds(self):
+        weight, segment = "weight segment 7 absent\n", "segment parent source length 1 width 0\n"
+        packed = job.pack(weight + segment + weight + "repeater segment 0 size 0\n" + weight + segment)
+        self.assertEqual([packed[at] for at in (17, 49, 81)], [0, 0, 1])
+
+    def test_whole_numbers_to_be_refused(self):
+        self.gives("weight segment 64 whole 256\n", "06 40 01 00 00 01" + " 00" * 10)
+        self.gives("weight segment 0 whole 4294967295\n", "06 00 01 00 ff ff ff ff" + " 00" * 8)
+
+    def test_fractions_and_their_bits(self):
+        for shown, pattern in (
+            ("0.0", 0),
+            ("-0.0", 1 << 63),
+            ("0.00390625", 0x3F70000000000000),
+            ("0.5", 0x3FE0000000000000),
+            ("0.99609375", 0x3FEFE00000000000),
+            ("1.0", 0x3FF0000000000000),
+            ("-0.5", 0xBFE0000000000000),
+            ("0.1", 0x3FB999999999999A),
+            ("0.3", 0x3FD3333333333333),
+            ("0.30000000000000004", 0x3FD3333333333334),
+            ("1e-05", 0x3EE4F8B588E368F1),
+            ("1e+16", 0x4341C37937E08000),
+            ("5e-324", 1),
+            ("2.225073858507201e-308", 0x000FFFFFFFFFFFFF),
+            ("2.2250738585072014e-308", 0x0010000000000000),
+            ("1.7976931348623157e+308", 0x7FEFFFFFFFFFFFFF),
+            ("-1.7976931348623157e+308", 0xFFEFFFFFFFFFFFFF),
+        ):
+            with self.subTest(shown):
+                self.assertEqual(job.pack(f"weight segment 3 fraction {shown}"), weight_record(3, 2, 0, pattern))
+                self.assertEqual(self.shown(pattern), shown)
+
+    def test_many_ways_to_write_a_fraction(self):
+        expected = job.pack("weight segment 3 fraction 0.02734375")
+        longer = "0.02734375" + "0" * 5000
+        nearest = "0.02734375" + "0" * 20 + "1"
+        exponents = ("2734375e-8", "2.734375E-02", "00.02734375e0", "0.00002734375e+3")
+        for written in ("+0.02734375", longer, nearest, *exponents):
+            self.assertEqual(job.pack(f"weight segment 3 fraction {written}"), expected, written)
+        for written, shown in (
+            ("0", "0.0"),
+            ("-0", "-0.0"),
+            ("-0e5", "-0.0"),
+            ("1", "1.0"),
+            ("1e-3", "0.001"),
+            ("1e-400", "0.0"),
+            ("-1e-400", "-0.0"),
+            ("0e99999999999999999999", "0.0"),
+            ("1.7976931348623157e308", "1.7976931348623157e+308"),
+            ("0.1000000000000000055511151231257827021181583404541015625", "0.1"),
+            ("9" * 300, "1e+300"),
+        ):
+            text = job.unpack(job.pack(f"weight segment 3 fraction {written}"))
+            self.assertEqual(text, f"weight segment 3 fraction {shown}\n")
+
+    def test_counts_and_their_neighbours(self):
+        for count in range(256):
+            pattern = bits(count / 256)
+            shown = self.shown(pattern)
+            self.assertRegex(shown, r"^0\.[0-9]+$")
+            self.assertEqual(Fraction(shown), Fraction(count, 256))
+            next_to = [pattern - 1, pattern + 1] if count else [1, 1 << 63 | 1]
+            words = [self.shown(other) for other in next_to]
+            self.assertEqual(len({shown, "raw", *words}), 4)
+            self.assertEqual([bits(float(other)) for other in words], next_to)
+
+    def test_random_binary64(self):
+        rng = random.Random(6)
+        for _ in range(20000):
+            pattern = rng.getrandbits(64)
+            if rng.random() < 0.2:
+                pattern |= 0x7FF << 52
+            elif rng.random() < 0.2:
+                pattern &= ~(0x7FF << 52)
+            shown = self.shown(pattern)
+            self.assertEqual(shown == "raw", pattern >> 52 & 0x7FF == 0x7FF)
+            if shown != "raw":
+                self.assertEqual(bits(float(shown)), pattern)
+
+    def test_what_is_no_number_is_raw(self):
+        infinity, sign = 0x7FF << 52, 1 << 63
+        for pattern in (infinity, infinity | 1, infinity | 1 << 51, infinity | (1 << 52) - 1):
+            self.assertEqual(self.shown(pattern), "raw")
+            self.assertEqual(self.shown(sign | pattern), "raw")
+
+    def test_each_unnamed_byte_is_raw(self):
+        named = {0: range(3), 1: (0, 1, 2, 4, 5, 6, 7), 2: (0, 1, 2, *range(8, 16))}
+        for form, kept in named.items():
+            for at in range(16):
+                data = bytearray(weight_record(3, form))
+                data[at] |= 128 if at > 2 else 0
+                raw = self.returns(bytes(data)).startswith("raw ")
+                self.assertEqual(raw, at not in kept, (form, at))
+
+    def test_each_form_above_2_is_raw(self):
+        for form in range(256):
+            self.assertEqual(self.returns(weight_record(3, form)).startswith("raw "), form > 2)
+
+    def test_random_records(self):
+        rng = random.Random(7)
+        lines = []
+        for _ in range(20000):
+            data = bytearray([6, *rng.randbytes(15)])
+            if rng.random() < 0.8:
+                data[2:4] = [rng.choice([0, 1, 2, 2, 3]), 0]
+            for first, last in ((4, 8), (8, 16)):
+                if rng.random() < 0.6:
+                    data[first:last] = bytes(last - first)
+            lines.append(self.returns(bytes(data)))
+        for form in ("absent", "whole", "fraction"):
+            self.assertGreater(sum(f" {form}" in line for line in lines), 400)
+        self.assertGreater(sum(line.startswith("raw ") for line in lines), 400)
+
+
+class Bytes(Returning):
+    """Whole records come back as they were."""
 
     def test_random_bytes(self):
         rng = random.Random(1)
@@ -404,6 +598,28 @@ class Bytes(unittest.TestCase):
             counts.add(len(repeaters))
         self.assertEqual(counts, set(range(9)))
 
+    def test_valid_jobs_with_weights_need_no_raw(self):
+        rng = random.Random(8)
+        forms = set()
+        for _ in range(500):
+            data = random_job(rng, 8, 8, 64)
+            text = self.returns(data)
+            self.assertNotIn("raw", text)
+            weights = [data[at : at + 16] for at in range(0, len(data), 16) if data[at] == 6]
+            lines = [line.split() for line in text.splitlines() if line.startswith("weight ")]
+            self.assertEqual([int(line[2]) for line in lines], [record[1] for record in weights])
+            self.assertEqual([line[3] for line in lines], [job.FORMS[record[2]] for record in weights])
+            self.assertTrue(text.endswith("".join(" ".join(line) + "\n" for line in lines)))
+            forms.update(record[2] for record in weights)
+        self.assertEqual(forms, {0, 1, 2})
+
+    def test_each_byte_of_a_weight(self):
+        data = (EXAMPLES / "weights.job").read_bytes()
+        first = min(at for at in range(0, len(data), 16) if data[at] == 6)
+        for at in range(first, len(data)):
+            for value in (0, 1, 2, 3, 5, 6, 7, 127, 128, 240, 255):
+                self.returns(data[:at] + bytes([value]) + data[at + 1 :])
+
     def test_each_byte_of_a_repeater(self):
         data = (EXAMPLES / "repeaters.job").read_bytes()
         for at in range(len(data) - 64, len(data)):
@@ -441,7 +657,10 @@ class Bytes(unittest.TestCase):
             "raw 00 00 00 00 00 00 00 00 00 00 00 00 00 00 00 00",  # no kind
             "raw 05 01 00 00 00 00 00 00 00 00 00 00 00 00 00 00",  # repeater 1 first
             "raw 05 00 00 00 00 01 00 00 00 00 00 00 00 00 00 00",  # an unnamed byte of a repeater
-            "raw 06 00 00 00 00 00 00 00 00 00 00 00 00 00 00 00",  # a kind behind repeaters
+            "raw 07 00 00 00 00 00 00 00 00 00 00 00 00 00 00 00",  # a kind behind weights
+            "raw 06 03 03 00 00 00 00 00 00 00 00 00 00 00 00 00",  # form 3
+            "raw 06 03 02 00 00 00 00 00 00 00 00 00 00 00 f0 7f",  # an infinity
+            "raw 06 03 02 00 00 00 00 00 00 00 00 00 00 00 f8 7f",  # a NaN
         ):
             self.assertEqual(job.unpack(job.pack(line)), line + "\n")
 
@@ -460,7 +679,9 @@ class Errors(unittest.TestCase):
         self.assertEqual(str(caught.exception), "net.txt:3: " + message)
 
     def test_words(self):
-        self.wrong("widht", "unknown word 'widht'; a line starts with width, size, stage, segment, repeater or raw")
+        self.wrong(
+            "widht", "unknown word 'widht'; a line starts with width, size, stage, segment, repeater, weight or raw"
+        )
         self.wrong(
             "width resistence 4",
             "unknown word 'resistence' after width; its words are layer, resistance, capacitance",
@@ -535,6 +756,51 @@ class Errors(unittest.TestCase):
             "repeater segment 3 width 0", "unknown word 'width' after repeater; its words are segment, size, sizes"
         )
 
+    def test_weights(self):
+        lacks = "weight lacks its form, as in 'absent', 'whole 7' or 'fraction 0.5'"
+        self.wrong("weight", "weight lacks its segment")
+        self.wrong("weight absent", "weight lacks its segment")
+        self.wrong("weight segment 3", lacks)
+        self.wrong("weight segment", "segment has no value")
+        self.wrong("weight segment absent", "segment has no value")
+        self.wrong("weight segment 256 absent", "segment 256 does not fit in 1 byte (at most 255)")
+        self.wrong("weight segment source absent", "segment wants a whole number, not 'source'")
+        self.wrong("weight segment 3 segment 3 absent", "segment twice")
+        self.wrong("weight segment 3 absent absent", "absent twice")
+        self.wrong("weight segment 3 absent whole 7", "absent and whole in one line")
+        self.wrong("weight segment 3 fraction 0.5 whole 7", "whole and fraction in one line")
+        self.wrong("weight fraction 0.5 whole 7 absent segment 3", "absent and whole and fraction in one line")
+        words = "its words are segment, absent, whole, fraction"
+        self.wrong("weight segment 3 absent 7", f"unknown word '7' after weight; {words}")
+        self.wrong("weight segment 3 7", f"unknown word '7' after weight; {words}")
+        self.wrong("weight 3 whole 7", f"unknown word '3' after weight; {words}")
+        self.wrong("weight segment 3 form 0", f"unknown word 'form' after weight; {words}")
+
+    def test_whole_weights(self):
+        self.wrong("weight segment 3 whole", "whole has no value")
+        self.wrong("weight whole segment 3", "whole has no value")
+        self.wrong("weight segment 3 whole 7.0", "whole wants a whole number, not '7.0'")
+        self.wrong("weight segment 3 whole -0", "whole wants a whole number, not '-0'")
+        self.wrong(
+            "weight segment 3 whole 4294967296", "whole 4294967296 does not fit in 4 bytes (at most 4294967295)"
+        )
+
+    def test_fractions(self):
+        self.wrong("weight segment 3 fraction", "fraction has no value")
+        self.wrong("weight fraction segment 3", "fraction has no value")
+        for word in (
+            *("nan", "-nan", "inf", "-inf", "Infinity", "0x1p-8", "0x1.cp-6", "1_0", "0.5_0", "1e1_0", "7/256"),
+            *(".5", "5.", "-.5", "1.e3", "1e", "1e+", "e5", "1e2.5", "--1", "+-1", "-", ".", "0,5", "0.5f", "1.2.3"),
+            *("½", "٣"),
+        ):
+            self.wrong(f"weight segment 3 fraction {word}", f"fraction wants a decimal number, not {word!r}")
+        long = "9" * 5000
+        for word in ("1e400", "-1e400", "1.7976931348623159e308", "1e99999999999999999999", long):
+            self.wrong(
+                f"weight segment 3 fraction {word}",
+                f"fraction {word} does not fit in 8 bytes (at most 1.7976931348623157e+308, of either sign)",
+            )
+
     def test_ranges(self):
         self.wrong("stage size 0..1", "size takes one index; a range is 'sizes 0..1'")
         self.wrong("stage sizes 0", "sizes wants a range as in 'sizes 0..1', not '0'")
@@ -603,6 +869,10 @@ class Replies(unittest.TestCase):
         self.assertEqual(job.reply_text(bounds, places), expected)
         with self.assertRaisesRegex(job.Wrong, "^reply: the reply has 3 places and the job 4$"):
             job.reply_text(reply[:-8], places)
+
+    def test_weights_are_no_places(self):
+        weights = "weight segment 1 fraction 0.5\n"
+        self.assertEqual(job.places_of(job.pack(REPEATED + weights)), job.places_of(job.pack(REPEATED)))
 
     def test_large_delay(self):
         reply = (2**63 - 1).to_bytes(8, "little") + J4_REPLY[8:]

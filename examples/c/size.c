@@ -22,7 +22,7 @@ static size_t places_of(const uint8_t *job, size_t length)
 {
     size_t places = 0;
     for (size_t at = 0; at < length; at += 16)
-        places += job[at] >= 3;
+        places += job[at] >= 3 && job[at] <= 5;
     return places;
 }
 
