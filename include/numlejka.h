@@ -6,18 +6,19 @@
  * then the repeaters'. docs/specification.md has the formats of jobs and replies, and what every figure and number means.
  *
  * Numbers. Each function but numlejka_choose returns 0 where it has answered, and otherwise the number of the first
- * question whose answer is no. They are asked in this order, so 24 comes after 2 and before 3, and 22 and 23 come after
- * 11 and before 12 and 15:
+ * question whose answer is no. They are asked in this order, so 24 comes after 2 and before 3, and 22, 23, 20 and 21
+ * come after 11 and before 12 and 15:
  *
  *   number  question                                                                                  asked by
  *      0    (answered)
  *      1    Is the length above 0 and a multiple of 16?                                               all
- *      2    Is every kind 1 to 5, and does the kind never fall from one record to the next?           all
+ *      2    Is every kind 1 to 6, and does the kind never fall from one record to the next?           all
  *     24    Is every layer byte 0 or 1, does the layer never fall from one width to the next, and
  *           has layer 1 a width where a segment names it?                                             all
  *      3    Are there 1 to 8 widths of layer 0 and at most 8 of layer 1, 1 to 16 sizes, 1 to 4
  *           stages, 1 to 64 segments, at most 8 repeaters?                                            all
- *      4    Do the numbers count from 0 in each kind, those of widths in each layer?                  all
+ *      4    Do the numbers count from 0 in each of the kinds 1 to 5, those of widths in each layer,
+ *           and does byte 1 of the weight records strictly rise?                                      all
  *      5    Are all unnamed bytes zero?                                                               all
  *      6    Are the values of widths and sizes in range?                                              all
  *      7    In each table, that of each layer and that of the sizes, does resistance strictly fall,
@@ -31,6 +32,9 @@
  *     22    Is every repeater's segment there, has it branches, and does its number strictly rise
  *           from one repeater to the next?                                                            all
  *     23    Is every repeater's lowest at most its highest, which is below the count of sizes?        all
+ *     20    Is the segment of every weight record there, has it a sink, is the form at most 2, and a
+ *           whole number at most 255?                                                                 all
+ *     21    Is 256 times each fraction a whole number from 0 to 255?                                  all
  *     12    Does the reply buffer hold 8 * (1 + P) bytes?                                             size
  *     14    Is room at most 65,536?                                                                   size
  *     15    Is each sizing at least P bytes long? Later bytes make no difference to the answer.       measure, refine, choose

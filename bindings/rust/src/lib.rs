@@ -81,12 +81,12 @@ pub enum Reply {
 }
 
 /// The questions, each with its number, in the order in which they are asked.
-const QUESTIONS: [(usize, &str); 19] = [
+const QUESTIONS: [(usize, &str); 21] = [
     (1, "Is the length above 0 and a multiple of 16?"),
-    (2, "Is every kind 1 to 5, and does the kind never fall from one record to the next?"),
+    (2, "Is every kind 1 to 6, and does the kind never fall from one record to the next?"),
     (24, "Is every layer byte 0 or 1, does the layer never fall from one width to the next, and has layer 1 a width where a segment names it?"),
     (3, "Are there 1 to 8 widths of layer 0 and at most 8 of layer 1, 1 to 16 sizes, 1 to 4 stages, 1 to 64 segments, at most 8 repeaters?"),
-    (4, "Do the numbers count from 0 in each kind, those of widths in each layer?"),
+    (4, "Do the numbers count from 0 in each of the kinds 1 to 5, those of widths in each layer, and does byte 1 of the weight records strictly rise?"),
     (5, "Are all unnamed bytes zero?"),
     (6, "Are the values of kinds 1 and 2 in range?"),
     (7, "In each table, that of each layer and that of the sizes, does resistance strictly fall, and do width capacitance and gate capacitance strictly rise?"),
@@ -96,6 +96,8 @@ const QUESTIONS: [(usize, &str); 19] = [
     (11, "Has every segment without branches a sink?"),
     (22, "Is every repeater's segment there, has it branches, and does its number strictly rise from one repeater to the next?"),
     (23, "Is every repeater's lowest at most its highest, which is below the count of sizes?"),
+    (20, "Is the segment of every weight record there, has it a sink, is the form at most 2, and a whole number at most 255?"),
+    (21, "Is 256 times each fraction a whole number from 0 to 255?"),
     (12, "Does the reply buffer hold 8 * (1 + P) bytes?"),
     (14, "Is room at most 65,536?"),
     (15, "Is each sizing at least P bytes long?"),
@@ -136,9 +138,11 @@ fn answered<T>(number: usize, answer: T) -> Result<T, Refusal> {
 /// The most places that a job can have: 4 stages, 64 segments and 8 repeaters.
 const MOST_PLACES: usize = 76;
 
-/// P of a job that passes its questions: its stages, its segments and its repeaters.
+/// P of a job that passes its questions: its stages, its segments and its repeaters; weight records are no places.
 fn places_of(job: &[u8]) -> usize {
-    job.chunks(16).filter(|record| record[0] >= 3).count()
+    job.chunks(16)
+        .filter(|record| (3..=5).contains(&record[0]))
+        .count()
 }
 
 /// The scaled delay and the load figure of a sizing.

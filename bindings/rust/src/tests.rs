@@ -41,6 +41,12 @@ fn repeater(i: u8, segment: u8, lowest: u8, highest: u8) -> Record {
     record([5, i, segment, lowest], [highest.into(), 0, 0])
 }
 
+/// A weight record: the segment, the form, a whole number and the bits of a fraction.
+fn weight(segment: u8, form: u8, whole: u32, fraction: u64) -> Record {
+    let [low, high] = [fraction as u32, (fraction >> 32) as u32];
+    record([6, segment, form, 0], [whole, low, high])
+}
+
 /// The bytes of a job.
 fn job(records: &[Record]) -> Vec<u8> {
     records.concat()
@@ -185,6 +191,34 @@ fn a_repeater_is_a_place() {
     assert_eq!(refine(&job, &[0, 0, 0, 0], 4).unwrap_err().number, 17);
 }
 
+/// J1 with its weight from a record: what the record counts, times the delays of J1, whose own weight is 1.
+#[test]
+fn a_weight_record_is_no_place() {
+    let with = |record: Record| [j1(), record.to_vec()].concat();
+    for (record, count) in [
+        (weight(0, 0, 0, 0), 1),
+        (weight(0, 1, 3, 0), 3),
+        (weight(0, 2, 0, 0x3f80_0000_0000_0000), 2),
+        (weight(0, 2, 0, 0x8000_0000_0000_0000), 0),
+    ] {
+        let job = with(record);
+        assert_eq!(delay(&job, &[0, 0]), 208 * count);
+        let (least, _, wide) = finished(&job);
+        assert_eq!((least, wide), (206 * count, vec![0, 1]));
+        let kept: &[u8] = if count == 0 { &[0, 0] } else { &[0, 1] };
+        assert_eq!(choose(&job, &[0, 0], &[0, 1]), Some(kept));
+        assert_eq!(refine(&job, &[0, 0], 2).unwrap_err().number, 17);
+    }
+    assert_eq!(
+        measure(&with(weight(1, 0, 0, 0)), &[0, 0])
+            .unwrap_err()
+            .number,
+        20
+    );
+    let one = weight(0, 2, 0, 0x3ff0_0000_0000_0000);
+    assert_eq!(measure(&with(one), &[0, 0]).unwrap_err().number, 21);
+}
+
 /// A chain of 64 segments behind four stages, with eight repeaters, and every reply fits.
 #[test]
 fn the_most_places() {
@@ -291,7 +325,7 @@ fn refusals() {
         bad[16 * 7 + at] = byte;
         size(&bad)
     };
-    assert_eq!(changed(0, 6), refused(2));
+    assert_eq!(changed(0, 7), refused(2));
     assert_eq!(changed(1, 1), refused(4));
     assert_eq!(changed(5, 1), refused(5));
     assert_eq!(changed(2, 1), refused(22));
@@ -322,8 +356,10 @@ fn a_refusal_tells_its_question() {
     assert!(question(24).starts_with("Is every layer byte 0 or 1"));
     assert!(question(22).starts_with("Is every repeater's segment there"));
     assert!(question(23).starts_with("Is every repeater's lowest at most its highest"));
+    assert!(question(20).starts_with("Is the segment of every weight record there"));
+    assert!(question(21).starts_with("Is 256 times each fraction a whole number"));
     let numbers: Vec<usize> = QUESTIONS.iter().map(|(number, _)| *number).collect();
-    assert_eq!(numbers[10..16], [10, 11, 22, 23, 12, 14]);
+    assert_eq!(numbers[10..18], [10, 11, 22, 23, 20, 21, 12, 14]);
 }
 
 #[test]
