@@ -2,7 +2,7 @@
 
 use crate::jobs::{self, Job, Shape};
 
-/// What a case calls. The questions alone are a call of `size` with no room for a reply: it asks 1 to 11 and 22 to 24, and
+/// What a case calls. The questions alone are a call of `size` with no room for a reply: it asks 1 to 11 and 20 to 24, and
 /// answers 12.
 pub enum Work {
     Questions,
@@ -153,6 +153,25 @@ pub fn all() -> Vec<Case> {
         size(
             "hardest, 8 repeaters free, weighted: room 65,536",
             include_bytes!("../jobs/repeaters.job").to_vec(),
+        ),
+    ]);
+    let weighted = |stages: usize| binary(stages, 64).with_fractions();
+    cases.extend([
+        questions("1 stage, 64 segments, 64 fractions", weighted(1)),
+        measure("hardest: 4 stages, 64 segments, 64 fractions", weighted(4)),
+        refine(
+            "hardest: 4 stages, 64 segments, 64 fractions, at the last stage",
+            weighted(4),
+            3,
+        ),
+        refine(
+            "hardest: 4 stages, 64 segments, 64 fractions, at the last segment",
+            weighted(4),
+            67,
+        ),
+        size(
+            "bounds only: 4 stages, 64 segments, 64 fractions, room 1",
+            weighted(4).bytes(),
         ),
     ]);
     cases

@@ -124,6 +124,7 @@ fn fresh(random: &mut Random, wanted: &Wanted) -> Job {
             .collect(),
         segments,
         repeaters: Vec::new(),
+        weights: Vec::new(),
     };
     if wanted.repeaters > 0 {
         job.repeaters = repeaters(random, &job, wanted.repeaters, (0, drivers as u8 - 1));

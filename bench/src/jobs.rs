@@ -16,7 +16,35 @@ pub struct Repeater {
     pub range: (u8, u8),
 }
 
-/// A job before it is written as records.
+/// What a weight record says of the weight of a sink: nothing, or a count of 256ths, as a whole number or as a fraction.
+#[derive(Clone, Copy)]
+#[cfg_attr(not(test), allow(dead_code))] // the rows have fractions alone, the tests every form
+pub enum Weight {
+    Absent,
+    Whole(u32),
+    Fraction(f64),
+}
+
+impl Weight {
+    /// A count as a fraction.
+    pub fn fraction(count: u8) -> Self {
+        Weight::Fraction(f64::from(count) / 256.0)
+    }
+
+    /// The form and the words of its record.
+    fn fields(self) -> (u8, [u32; 3]) {
+        match self {
+            Weight::Absent => (0, [0; 3]),
+            Weight::Whole(count) => (1, [count, 0, 0]),
+            Weight::Fraction(fraction) => {
+                let bits = fraction.to_bits();
+                (2, [0, bits as u32, (bits >> 32) as u32])
+            }
+        }
+    }
+}
+
+/// A job before it is written as records; each weight is that of the sink of the segment beside it.
 #[derive(Clone)]
 pub struct Job {
     pub widths: Vec<(u32, u32)>,
@@ -24,6 +52,7 @@ pub struct Job {
     pub stages: Vec<(u8, u8)>,
     pub segments: Vec<Segment>,
     pub repeaters: Vec<Repeater>,
+    pub weights: Vec<(u8, Weight)>,
 }
 
 impl Job {
@@ -52,6 +81,10 @@ impl Job {
             let (lowest, highest) = r.range;
             push(&mut bytes, [5, i as u8, r.segment, lowest], [highest.into(), 0, 0]);
         }
+        for &(segment, weight) in &self.weights {
+            let (form, words) = weight.fields();
+            push(&mut bytes, [6, segment, form, 0], words);
+        }
         bytes
     }
 
@@ -67,6 +100,16 @@ impl Job {
     pub fn with_repeaters(mut self) -> Self {
         let range = (0, self.sizes.len() as u8 - 1);
         self.repeaters = (7..15).map(|segment| Repeater { segment, range }).collect();
+        self
+    }
+
+    /// Gives every segment a sink, where it has none, and a weight record with a fraction.
+    pub fn with_fractions(mut self) -> Self {
+        let mut random = Random(0xBF58_476D_1CE4_E5B9);
+        for (i, segment) in (0..).zip(&mut self.segments) {
+            segment.sink.get_or_insert_with(|| (60 + random.below(260) as u32, 0));
+            self.weights.push((i, Weight::fraction(1 + random.below(255) as u8)));
+        }
         self
     }
 
@@ -176,6 +219,7 @@ pub fn net(stages: usize, segments: usize, shape: Shape) -> Job {
             })
             .collect(),
         repeaters: Vec::new(),
+        weights: Vec::new(),
     }
 }
 

@@ -1,4 +1,4 @@
-//! The same work in plain Rust: questions 1 to 11 and 22 to 24, delay, refining, bounds, search, reply.
+//! The same work in plain Rust: questions 1 to 11 and 20 to 24, delay, refining, bounds, search, reply.
 //! Nothing is shared with the library. A job that passes the questions is read in place, through slices of its records.
 //!
 //! Three ways to go:
@@ -21,7 +21,8 @@ const REPEATERS: usize = 8;
 /// The most sizings that a search covers.
 const ROOM: u64 = 65_536;
 
-/// A job's records by kind, its widths by layer. Its places are the stages, the segments and the repeaters.
+/// A job's records by kind, its widths by layer, and the weight of each segment's sink. Its places are the stages, the segments
+/// and the repeaters.
 #[derive(Clone, Copy)]
 pub struct Net<'a> {
     pub layers: [&'a [Record]; 2],
@@ -29,6 +30,7 @@ pub struct Net<'a> {
     pub stages: &'a [Record],
     pub segments: &'a [Record],
     pub repeaters: &'a [Record],
+    pub weights: &'a [u8],
 }
 
 /// The first segment at each node and the next sibling of each segment; `segments.len()` where there is none.
@@ -141,6 +143,7 @@ fn ranges_within(records: &[Record], at: usize, count: usize) -> bool {
 }
 
 /// Are a segment's fields in range, capacitance and weight 0 where it has no sink, and its range within its layer's rows?
+#[inline(always)]
 fn fits(segment: &Record, layers: &[&[Record]; 2]) -> bool {
     let capacitance = word(segment, 8);
     segment[3] <= 1
@@ -151,9 +154,70 @@ fn fits(segment: &Record, layers: &[&[Record]; 2]) -> bool {
         && usize::from(segment[14]) < layers[usize::from(segment[15])].len()
 }
 
-/// Asks questions 1, 2, 24, 3 to 11, 22 and 23, in this order, and links the segments; the number of the first question that
-/// the job fails is the error.
-fn check<'a>(job: &'a [u8], links: &mut Links) -> Result<Net<'a>, usize> {
+/// Questions 10 and 11 of the segments, whose first branches are given; each sink gets the weight byte of its segment. Not put
+/// into the function that asks, where it would have no registers left.
+#[inline(never)]
+fn check_segments(
+    segments: &[Record],
+    first: &[usize],
+    layers: &[&[Record]; 2],
+    weights: &mut [u8; SEGMENTS],
+) -> Result<(), usize> {
+    let mut ends = true;
+    for ((segment, &child), weight) in segments.iter().zip(first).zip(weights) {
+        if !fits(segment, layers) {
+            return Err(10);
+        }
+        *weight = segment[12];
+        ends &= segment[3] != 0 || child < segments.len();
+    }
+    if ends { Ok(()) } else { Err(11) }
+}
+
+/// The forms of a weight record beside 0, which leaves the weight byte of its segment.
+const WHOLE: u8 = 1;
+const FRACTION: u8 = 2;
+
+/// Are the bytes of a weight record that its form does not name zero?
+fn named_alone(record: &Record) -> bool {
+    record[3] == 0 && (record[2] == WHOLE || record[4..8] == [0; 4]) && (record[2] == FRACTION || record[8..] == [0; 8])
+}
+
+/// Is the segment of a weight record there and has it a sink, and are its form and its whole number in range?
+fn weighs(record: &Record, segments: &[Record]) -> bool {
+    segments.get(usize::from(record[1])).is_some_and(|segment| segment[3] != 0)
+        && record[2] <= FRACTION
+        && (record[2] != WHOLE || word(record, 4) <= 255)
+}
+
+/// The 256ths of a record's fraction, where they are a whole number from 0 to 255: others are changed where they are made a byte.
+fn count_of(record: &Record) -> Option<u8> {
+    let product = 256.0 * f64::from_bits(word(record, 8) | word(record, 12) << 32);
+    let count = product as u8;
+    (f64::from(count) == product).then_some(count)
+}
+
+/// Puts what the weight records say into the table of the sinks' weights; false where a fraction has no count.
+fn read_weights(records: &[Record], weights: &mut [u8; SEGMENTS]) -> bool {
+    for record in records {
+        let weight = &mut weights[usize::from(record[1])];
+        match record[2] {
+            WHOLE => *weight = record[4],
+            FRACTION => {
+                let Some(count) = count_of(record) else {
+                    return false;
+                };
+                *weight = count;
+            }
+            _ => (),
+        }
+    }
+    true
+}
+
+/// Asks questions 1, 2, 24, 3 to 11, 22, 23, 20 and 21, in this order, links the segments and fills the table of the sinks'
+/// weights; the number of the first question that the job fails is the error.
+fn check<'a>(job: &'a [u8], links: &mut Links, weights: &'a mut [u8; SEGMENTS]) -> Result<Net<'a>, usize> {
     let (records, rest) = job.as_chunks::<16>();
     if job.is_empty() || !rest.is_empty() {
         return Err(1);
@@ -163,6 +227,7 @@ fn check<'a>(job: &'a [u8], links: &mut Links) -> Result<Net<'a>, usize> {
     let (stages, records) = run(records, 3);
     let (segments, records) = run(records, 4);
     let (repeaters, records) = run(records, 5);
+    let (weight_records, records) = run(records, 6);
     if !records.is_empty() {
         return Err(2);
     }
@@ -181,13 +246,15 @@ fn check<'a>(job: &'a [u8], links: &mut Links) -> Result<Net<'a>, usize> {
         return Err(3);
     }
     if !(in_order(first) && in_order(second) && in_order(sizes) && in_order(stages) && in_order(segments) && in_order(repeaters))
+        || !weight_records.windows(2).all(|w| w[0][1] < w[1][1])
     {
         return Err(4);
     }
     if !(widths.iter().all(|r| r[3] == 0 && r[12..] == [0; 4])
         && sizes.iter().all(|r| r[2..4] == [0; 2])
         && stages.iter().all(|r| r[4..] == [0; 12])
-        && repeaters.iter().all(|r| r[5..] == [0; 11]))
+        && repeaters.iter().all(|r| r[5..] == [0; 11])
+        && weight_records.iter().all(named_alone))
     {
         return Err(5);
     }
@@ -209,22 +276,18 @@ fn check<'a>(job: &'a [u8], links: &mut Links) -> Result<Net<'a>, usize> {
         return Err(9);
     }
     let layers = [first, second];
-    let without = segments.len();
-    let mut ends = true;
-    for (segment, &child) in segments.iter().zip(&links.first[1..]) {
-        if !fits(segment, &layers) {
-            return Err(10);
-        }
-        ends &= segment[3] != 0 || child < without;
-    }
-    if !ends {
-        return Err(11);
-    }
-    if !links.sited(repeaters, without) {
+    check_segments(segments, &links.first[1..], &layers, weights)?;
+    if !links.sited(repeaters, segments.len()) {
         return Err(22);
     }
     if !ranges_within(repeaters, 3, sizes.len()) {
         return Err(23);
+    }
+    if !weight_records.iter().all(|r| weighs(r, segments)) {
+        return Err(20);
+    }
+    if !read_weights(weight_records, weights) {
+        return Err(21);
     }
     Ok(Net {
         layers,
@@ -232,6 +295,7 @@ fn check<'a>(job: &'a [u8], links: &mut Links) -> Result<Net<'a>, usize> {
         stages,
         segments,
         repeaters,
+        weights: &weights[..segments.len()],
     })
 }
 
@@ -335,13 +399,20 @@ impl<'a> Net<'a> {
         }
     }
 
-    /// A segment at the width k.
+    /// The weight of the sink of the segment that a place is; none where it is a driver.
+    fn sink_weight_at(&self, p: usize) -> Option<u64> {
+        self.weights
+            .get(p.checked_sub(self.stages.len())?)
+            .map(|&weight| weight.into())
+    }
+
+    /// A segment whose sink has a weight, at the width k.
     #[inline(always)]
-    fn sized(&self, segment: &Record, k: u8) -> Sized {
+    fn sized(&self, segment: &Record, weight: u8, k: u8) -> Sized {
         let Wire { rows, length } = self.wire(segment);
         let row = &rows[usize::from(k)];
         Sized {
-            weight: u64::from(segment[12]),
+            weight: weight.into(),
             sink: word(segment, 8),
             resistance: word(row, 4) * length,
             capacitance: word(row, 8) * length,
@@ -475,8 +546,9 @@ impl<'a> Tree<'a> {
             parts: [Part::default(); REPEATERS],
             count: self.net.segments.len(),
         };
-        for ((sized, segment), &k) in walk.segments.iter_mut().zip(self.net.segments).zip(x.segments) {
-            *sized = self.net.sized(segment, k);
+        let segments = self.net.segments.iter().zip(self.net.weights);
+        for ((sized, (segment, &weight)), &k) in walk.segments.iter_mut().zip(segments).zip(x.segments) {
+            *sized = self.net.sized(segment, weight, k);
         }
         let mut charged = 0;
         for (r, (repeater, &k)) in self.net.repeaters.iter().zip(x.repeaters).enumerate().rev() {
@@ -515,13 +587,13 @@ impl<'a> Tree<'a> {
     #[inline(always)]
     fn pass(&self, x: &Indices, below: &mut [(u64, u64); SEGMENTS + 1], start: usize, end: usize) -> u64 {
         let mut delay = 0;
-        let run = self.net.segments[start..end].iter().zip(&x.segments[start..end]);
-        for (i, (segment, &k)) in run.enumerate().rev() {
+        let run = self.net.segments[start..end].iter().zip(&self.net.weights[start..end]);
+        for (i, ((segment, &own_weight), &k)) in run.zip(&x.segments[start..end]).enumerate().rev() {
             let Wire { rows, length } = self.net.wire(segment);
             let row = &rows[usize::from(k)];
             let own = word(row, 8) * length;
             let (weight, load) = below[start + i + 1];
-            let weight = u64::from(segment[12]) + weight;
+            let weight = u64::from(own_weight) + weight;
             let under = word(segment, 8) + load;
             delay += weight * (word(row, 4) * length * (own + 2 * under));
             let parent = &mut below[usize::from(segment[2])];
@@ -683,8 +755,8 @@ impl Positions {
     fn weigh(&self, net: &Net, weights: &mut [u64; PLACES]) {
         let mut gathered = [0; PLACES + 1];
         for t in (0..net.places()).rev() {
-            let (weight, behind) = match net.segment_at(self.order[t]) {
-                Some(segment) => (1, u64::from(segment[12]) + gathered[t + 1]),
+            let (weight, behind) = match net.sink_weight_at(self.order[t]) {
+                Some(sink) => (1, sink + gathered[t + 1]),
                 None => (2, gathered[t + 1]),
             };
             weights[t] = weight * behind;
@@ -738,9 +810,9 @@ impl<'a> Nodes<'a> {
         let x = tree.net.by_kind(sizing);
         let parts = [Part::default(); SEGMENTS + 1];
         let mut nodes = Nodes { tree, sizing, x, parts };
-        for (i, segment) in tree.net.segments.iter().enumerate().rev() {
+        for (i, (segment, &weight)) in tree.net.segments.iter().zip(tree.net.weights).enumerate().rev() {
             let hanging = nodes.hanging(i);
-            let sized = tree.net.sized(segment, nodes.x.segments[i]);
+            let sized = tree.net.sized(segment, weight, nodes.x.segments[i]);
             nodes.parts[usize::from(segment[2])].join(sized, hanging);
         }
         nodes
@@ -769,8 +841,8 @@ impl<'a> Nodes<'a> {
     /// The weight of a place: of a segment that of the sinks at or below its far end, of a driver twice that of those behind it.
     fn weight(&self, p: usize) -> u64 {
         let net = self.tree.net;
-        match net.segment_at(p) {
-            Some(segment) => u64::from(segment[12]) + self.parts[p - net.stages.len() + 1].weight,
+        match net.sink_weight_at(p) {
+            Some(sink) => sink + self.parts[p - net.stages.len() + 1].weight,
             None => 2 * self.driven_branches(p).weight,
         }
     }
@@ -1172,8 +1244,8 @@ fn check_sizing(net: &Net, sizing: &[u8]) -> Result<(), usize> {
 
 /// Delay and load figure of a sizing, or the number of the first question that fails.
 fn measure_by<const PASS: bool>(job: &[u8], sizing: &[u8]) -> Result<(u64, u64), usize> {
-    let mut links = Links::new();
-    let net = check(job, &mut links)?;
+    let (mut links, mut weights) = (Links::new(), [0; SEGMENTS]);
+    let net = check(job, &mut links, &mut weights)?;
     check_sizing(&net, sizing)?;
     Ok(Tree::new(&net, &links).figures::<PASS>(sizing))
 }
@@ -1195,8 +1267,8 @@ pub type Refined = (u8, u8, u64);
 
 /// Refines, or tells the number of the first question that fails.
 fn refine_by(job: &[u8], sizing: &[u8], place: usize, way: Way) -> Result<Refined, usize> {
-    let mut links = Links::new();
-    let net = check(job, &mut links)?;
+    let (mut links, mut weights) = (Links::new(), [0; SEGMENTS]);
+    let net = check(job, &mut links, &mut weights)?;
     check_sizing(&net, sizing)?;
     let places = net.places();
     if places <= place {
@@ -1315,8 +1387,8 @@ fn size_by_passes(tree: &Tree, reply: &mut [u8]) -> usize {
 }
 
 fn size_by(job: &[u8], reply: &mut [u8], way: Way) -> usize {
-    let mut links = Links::new();
-    let net = match check(job, &mut links) {
+    let (mut links, mut weights) = (Links::new(), [0; SEGMENTS]);
+    let net = match check(job, &mut links, &mut weights) {
         Ok(net) => net,
         Err(number) => return number,
     };
@@ -1350,8 +1422,8 @@ pub fn size_fastest(job: &[u8], reply: &mut [u8]) -> usize {
 
 /// The bounds of a job that passes the questions, by place.
 pub fn bounds(job: &[u8]) -> Result<(Vec<u8>, Vec<u8>), usize> {
-    let mut links = Links::new();
-    let net = check(job, &mut links)?;
+    let (mut links, mut weights) = (Links::new(), [0; SEGMENTS]);
+    let net = check(job, &mut links, &mut weights)?;
     let (mut lower, mut upper) = (vec![0; net.places()], vec![0; net.places()]);
     bounds_by_delays::<true>(&Tree::new(&net, &links), &mut lower, &mut upper);
     Ok((lower, upper))

@@ -2,7 +2,7 @@
 
 use crate::cases::{self, Work};
 use crate::find::{LARGEST, WIDEST, repeaters, room, sizes, widths};
-use crate::jobs::{self, Job, Random, Segment, Shape};
+use crate::jobs::{self, Job, Random, Segment, Shape, Weight};
 use crate::{REPLY, library, plain};
 
 /// A way to size.
@@ -119,7 +119,7 @@ fn assert_same_numbers(random: &mut Random, job: &[u8], copies: usize, name: &st
         let mut job = job.to_vec();
         let at = random.below(job.len() as u64) as usize;
         job[at] = if random.below(2) == 0 {
-            random.below(6) as u8
+            random.below(7) as u8
         } else {
             random.below(256) as u8
         };
@@ -192,9 +192,9 @@ fn an_empty_layer_0_gives_3() {
     assert_eq!(assert_same_reply(&with(&job, &layers), "layer 0 empty"), 3);
 }
 
-/// Is the job one with repeaters?
-fn has_repeaters(job: &[u8]) -> bool {
-    job[job.len() - 16] == 5
+/// How many records of a kind a job has.
+fn count(job: &[u8], kind: u8) -> usize {
+    job.as_chunks::<16>().0.iter().filter(|r| r[0] == kind).count()
 }
 
 /// A range within the first `count` indices: every other time all of them.
@@ -233,6 +233,7 @@ fn repeated_job(random: &mut Random) -> Job {
             })
             .collect(),
         repeaters: Vec::new(),
+        weights: Vec::new(),
     };
     job.stages[0].1 = job.stages[0].0;
     let count = 1 + random.below(8) as usize;
@@ -260,33 +261,46 @@ fn repeated_jobs(count: usize) -> Vec<(Vec<u8>, String)> {
         .collect()
 }
 
+/// The cases that have records of a kind, each with its name.
+fn cases_with(kind: u8) -> impl Iterator<Item = (Vec<u8>, String)> {
+    let all = cases::all().into_iter().map(|case| (case.job, case.name));
+    all.filter(move |(job, _)| count(job, kind) > 0)
+}
+
 /// The three plain ways among themselves: replies, and refining at every place.
+fn same_plain_everywhere(job: &[u8], name: &str) {
+    same_plain_reply(job, name);
+    at_every_place(job, |sizing, place| {
+        if let Ok((_, _, delay)) = same_plain_ends(job, sizing, place, name) {
+            let (figures, by_pass) = (plain::measure(job, sizing), plain::measure_fastest(job, sizing));
+            assert_eq!(figures, by_pass, "{name}");
+            assert!(figures.is_ok_and(|(measured, _)| delay <= measured), "{name}, place {place}");
+        }
+    });
+}
+
 #[test]
 fn plain_ways_are_the_same_with_repeaters() {
-    let all = cases::all().into_iter().map(|case| (case.job, case.name));
-    for (job, name) in all.filter(|(job, _)| has_repeaters(job)).chain(repeated_jobs(1_000)) {
-        same_plain_reply(&job, &name);
-        at_every_place(&job, |sizing, place| {
-            if let Ok((_, _, delay)) = same_plain_ends(&job, sizing, place, &name) {
-                let (figures, by_pass) = (plain::measure(&job, sizing), plain::measure_fastest(&job, sizing));
-                assert_eq!(figures, by_pass, "{name}");
-                assert!(figures.is_ok_and(|(measured, _)| delay <= measured), "{name}, place {place}");
-            }
-        });
+    for (job, name) in cases_with(5).chain(repeated_jobs(1_000)) {
+        same_plain_everywhere(&job, &name);
     }
 }
 
 /// Replies, refining at every place, `measure` from both bounds and of damaged copies: the library and all three.
+fn assert_same_everywhere(random: &mut Random, job: &[u8], name: &str) {
+    assert_same_reply(job, name);
+    assert_same_ends_everywhere(job, name);
+    at_every_place(job, |sizing, _| {
+        assert_eq!(library::measure(job, sizing), plain::measure(job, sizing), "{name}");
+    });
+    assert_same_numbers(random, job, 1_000, name);
+}
+
 #[test]
 fn all_are_the_same_with_repeaters() {
     let mut random = Random(0x5895_60A2_47C5_3D21);
     for (job, name) in repeated_jobs(200) {
-        assert_same_reply(&job, &name);
-        assert_same_ends_everywhere(&job, &name);
-        at_every_place(&job, |sizing, _| {
-            assert_eq!(library::measure(&job, sizing), plain::measure(&job, sizing), "{name}");
-        });
-        assert_same_numbers(&mut random, &job, 1_000, &name);
+        assert_same_everywhere(&mut random, &job, &name);
     }
 }
 
@@ -294,9 +308,11 @@ fn all_are_the_same_with_repeaters() {
 #[test]
 fn jobs_with_repeaters_are_of_all_kinds() {
     let jobs = repeated_jobs(200);
-    for count in 1..=8 {
-        let has = |job: &[u8]| job.as_chunks::<16>().0.iter().filter(|r| r[0] == 5).count() == count;
-        assert!(jobs.iter().any(|(job, _)| has(job)), "{count} repeaters");
+    for repeaters in 1..=8 {
+        assert!(
+            jobs.iter().any(|(job, _)| count(job, 5) == repeaters),
+            "{repeaters} repeaters"
+        );
     }
     let rooms: Vec<u64> = jobs.iter().map(|(job, _)| room(job)).collect();
     for (least, most) in [(1, 1), (2, 100), (101, 65_536), (65_537, u64::MAX)] {
@@ -311,8 +327,7 @@ fn jobs_with_repeaters_are_of_all_kinds() {
 /// in the second repeater, 2 × (1 + 4) = 10 in segment 2 and 3 × (3/2 + 6) = 22.5 in segment 3. So the sinks of segments 1 to 3
 /// have 74.5, 105.5 and 91.5, with the weights 1, 2 and 1: scaled 754. The load figure is 8 of wires, 13 of sinks, 1 of the stage
 /// and 3 of each repeater: 28.
-#[test]
-fn a_repeater_behind_a_repeater_is_as_worked_by_hand() {
+fn by_hand() -> Job {
     let segment = |parent: u8, length: u32, sink: Option<(u32, u8)>| Segment {
         parent,
         length,
@@ -320,7 +335,7 @@ fn a_repeater_behind_a_repeater_is_as_worked_by_hand() {
         range: (0, 0),
     };
     let repeater = |segment: u8| jobs::Repeater { segment, range: (0, 1) };
-    let job = Job {
+    Job {
         widths: vec![(1, 1)],
         sizes: vec![(3, 2, 1), (2, 5, 4)],
         stages: vec![(0, 0)],
@@ -331,8 +346,21 @@ fn a_repeater_behind_a_repeater_is_as_worked_by_hand() {
             segment(1, 3, Some((6, 1))),
         ],
         repeaters: vec![repeater(0), repeater(1)],
+        weights: Vec::new(),
     }
-    .bytes();
+}
+
+/// The job worked by hand with other weight bytes and three records, of which two say the same weights as before.
+fn weighted_by_hand() -> Job {
+    let mut job = by_hand();
+    for (segment, sink) in [(1, (3, 9)), (2, (4, 200)), (3, (6, 1))] {
+        job.segments[segment].sink = Some(sink);
+    }
+    job.weights = vec![(1, Weight::Whole(1)), (2, Weight::Fraction(0.0078125)), (3, Weight::Absent)];
+    job
+}
+
+fn assert_as_worked_by_hand(job: &[u8]) {
     for (sizes, figures) in [
         ([0, 0], (754, 28)),
         ([1, 0], (794, 34)),
@@ -340,28 +368,45 @@ fn a_repeater_behind_a_repeater_is_as_worked_by_hand() {
         ([1, 1], (856, 40)),
     ] {
         let sizing = [&[0; 5][..], &sizes].concat();
-        assert_eq!(plain::measure(&job, &sizing), Ok(figures), "{sizes:?}");
-        assert_eq!(plain::measure_fastest(&job, &sizing), Ok(figures), "{sizes:?}");
+        assert_eq!(plain::measure(job, &sizing), Ok(figures), "{sizes:?}");
+        assert_eq!(plain::measure_fastest(job, &sizing), Ok(figures), "{sizes:?}");
         assert_eq!(
-            same_plain_ends(&job, &sizing, 5, "by hand").map(|(low, high, _)| (low, high)),
+            same_plain_ends(job, &sizing, 5, "by hand").map(|(low, high, _)| (low, high)),
             Ok((0, 0))
         );
     }
-    let (number, reply) = same_plain_reply(&job, "by hand");
+    let (number, reply) = same_plain_reply(job, "by hand");
     assert_eq!((number, &reply[..8]), (0, &754u64.to_le_bytes()[..]));
 }
 
-/// The net of the cases with repeaters, with some bytes replaced: each as record from the last one back, and offset.
-fn repeated_with(bytes: &[(usize, usize, u8)]) -> Vec<u8> {
-    let job = jobs::net(4, 64, Shape::Binary).with_repeaters().bytes();
-    let at = |&(record, offset, byte): &(usize, usize, u8)| (job.len() - 16 * record + offset, byte);
-    with(&job, &bytes.iter().map(at).collect::<Vec<_>>())
+#[test]
+fn a_repeater_behind_a_repeater_is_as_worked_by_hand() {
+    assert_as_worked_by_hand(&by_hand().bytes());
+}
+
+#[test]
+fn weights_of_records_are_as_worked_by_hand() {
+    assert_as_worked_by_hand(&weighted_by_hand().bytes());
+}
+
+/// A byte that is put into a job: record from the last one back, offset, byte.
+type Put = (usize, usize, u8);
+
+/// A job with some bytes replaced.
+fn with_puts(job: &[u8], puts: &[Put]) -> Vec<u8> {
+    let at = |&(record, offset, byte): &Put| (job.len() - 16 * record + offset, byte);
+    with(job, &puts.iter().map(at).collect::<Vec<_>>())
+}
+
+/// The net of the cases with repeaters, with some bytes replaced.
+fn repeated_with(puts: &[Put]) -> Vec<u8> {
+    with_puts(&jobs::net(4, 64, Shape::Binary).with_repeaters().bytes(), puts)
 }
 
 /// Each way to fail question 22 or 23, alone and where another fails too.
 #[test]
 fn repeaters_that_do_not_fit_give_22_or_23() {
-    let number = |bytes: &[(usize, usize, u8)]| assert_same_reply(&repeated_with(bytes), &format!("{bytes:?}"));
+    let number = |puts: &[Put]| assert_same_reply(&repeated_with(puts), &format!("{puts:?}"));
     let (empty, beyond) = ([(1, 3, 5), (1, 4, 4)], (2, 4, 16));
     let no_sink = [(9, 3, 0), (9, 8, 0), (9, 9, 0), (9, 10, 0), (9, 11, 0), (9, 12, 0)];
     assert_eq!(number(&[]), 0);
@@ -385,8 +430,8 @@ fn repeaters_that_do_not_fit_give_22_or_23() {
 /// Questions 2 to 5 where repeaters change them.
 #[test]
 fn repeaters_have_their_kind_count_numbers_and_zeros() {
-    let number = |bytes: &[(usize, usize, u8)]| assert_same_reply(&repeated_with(bytes), &format!("{bytes:?}"));
-    assert_eq!(number(&[(1, 0, 6)]), 2);
+    let number = |puts: &[Put]| assert_same_reply(&repeated_with(puts), &format!("{puts:?}"));
+    assert_eq!(number(&[(1, 0, 7)]), 2);
     assert_eq!(number(&[(1, 0, 4)]), 2);
     assert_eq!(number(&[(9, 0, 5)]), 3);
     assert_eq!(number(&[(1, 1, 0)]), 4);
@@ -405,5 +450,178 @@ fn the_longest_reply_needs_its_room() {
         assert_eq!(reply, [0xAA; 616]);
         assert_eq!(size(&job, &mut reply), 0);
         assert_eq!(reply[612..], [0; 4]);
+    }
+}
+
+/// A random form of a record that says a count; half are fractions.
+fn weight(random: &mut Random, count: u8) -> Weight {
+    match random.below(4) {
+        0 => Weight::Absent,
+        1 => Weight::Whole(count.into()),
+        _ if count == 0 && random.below(2) == 0 => Weight::Fraction(-0.0),
+        _ => Weight::fraction(count),
+    }
+}
+
+/// A job with weight records at two of three sinks, and the same job with what they say as weight bytes and without them.
+fn weighted_job(random: &mut Random) -> (Job, Job) {
+    let (mut weighted, most) = (repeated_job(random), 1 + random.below(256));
+    let mut in_bytes = weighted.clone();
+    for (i, segment) in (0..).zip(&mut in_bytes.segments) {
+        let Some((_, byte)) = segment.sink.as_mut().filter(|_| random.below(3) > 0) else {
+            continue;
+        };
+        let count = random.below(most) as u8;
+        let weight = weight(random, count);
+        weighted.weights.push((i, weight));
+        if !matches!(weight, Weight::Absent) {
+            *byte = count;
+        }
+    }
+    (weighted, in_bytes)
+}
+
+/// So many jobs with weight records, and each without them.
+fn weighted_jobs(count: usize) -> Vec<(Vec<u8>, Vec<u8>)> {
+    let mut random = Random(0x94D0_49BB_1331_11EB);
+    let bytes = |(weighted, in_bytes): (Job, Job)| (weighted.bytes(), in_bytes.bytes());
+    (0..count).map(|_| bytes(weighted_job(&mut random))).collect()
+}
+
+/// The three plain ways among themselves, and with and without weight records.
+#[test]
+fn plain_ways_are_the_same_with_weights() {
+    for (job, name) in cases_with(6) {
+        same_plain_everywhere(&job, &name);
+    }
+    for (weighted, in_bytes) in weighted_jobs(1_000) {
+        let name = format!("{weighted:?}");
+        same_plain_everywhere(&weighted, &name);
+        assert_eq!(
+            same_plain_reply(&weighted, &name),
+            same_plain_reply(&in_bytes, &name),
+            "{name}"
+        );
+        at_every_place(&in_bytes, |sizing, place| {
+            assert_eq!(plain::measure(&weighted, sizing), plain::measure(&in_bytes, sizing), "{name}");
+            let [ends, without] = [&weighted, &in_bytes].map(|job| plain::refine(job, sizing, place));
+            assert_eq!(ends, without, "{name}, place {place}");
+        });
+    }
+}
+
+#[test]
+fn all_are_the_same_with_weights() {
+    let mut random = Random(0xD6E8_FEB8_6659_FD93);
+    for (weighted, _) in weighted_jobs(200) {
+        assert_same_everywhere(&mut random, &weighted, &format!("{weighted:?}"));
+    }
+}
+
+/// The net of the cases with repeaters and three weight records behind them: absent at segment 61, a whole number at 62, and a
+/// weight at 63.
+fn weighted(last: Weight) -> Vec<u8> {
+    let mut job = jobs::net(4, 64, Shape::Binary).with_repeaters();
+    job.weights = vec![(61, Weight::Absent), (62, Weight::Whole(255)), (63, last)];
+    job.bytes()
+}
+
+/// The number of a job with three weight records, the last a fraction, and with some bytes replaced.
+fn weighted_number(puts: &[Put]) -> usize {
+    assert_same_reply(&with_puts(&weighted(Weight::fraction(77)), puts), &format!("{puts:?}"))
+}
+
+/// Questions 2 to 5 where weight records change them.
+#[test]
+fn weights_have_their_kind_order_and_zeros() {
+    assert_eq!(weighted_number(&[]), 0);
+    for kind in [(1, 0, 7), (1, 0, 0), (1, 0, 5), (2, 0, 5)] {
+        assert_eq!(weighted_number(&[kind]), 2, "{kind:?}");
+    }
+    assert_eq!(weighted_number(&[(3, 0, 5)]), 3);
+    for segment in [(1, 1, 62), (1, 1, 0), (3, 1, 62), (3, 1, 255)] {
+        assert_eq!(weighted_number(&[segment]), 4, "{segment:?}");
+        assert_eq!(weighted_number(&[segment, (1, 3, 1)]), 4, "{segment:?}");
+    }
+    let unnamed = [(3, vec![3..16]), (2, vec![3..4, 8..16]), (1, vec![3..8])];
+    for (record, bytes) in unnamed {
+        for at in bytes.into_iter().flatten() {
+            assert_eq!(weighted_number(&[(record, at, 1)]), 5, "record {record}, byte {at}");
+            assert_eq!(
+                weighted_number(&[(record, at, 128), (3, 1, 64)]),
+                4,
+                "record {record}, byte {at}"
+            );
+        }
+    }
+    assert_eq!(weighted_number(&[(2, 2, 3)]), 5);
+    assert_eq!(weighted_number(&[(1, 2, 0)]), 5);
+}
+
+/// Each way to fail question 20, alone and where 23 or 21 fails too.
+#[test]
+fn weights_that_do_not_fit_give_20() {
+    let (no_range, no_count) = ((4, 4, 16), (1, 8, 1));
+    for (name, put) in [
+        ("a missing segment", (1, 1, 64)),
+        ("a missing segment", (1, 1, 255)),
+        ("no sink", (3, 1, 0)),
+        ("a form above 2", (3, 2, 3)),
+        ("a form above 2", (3, 2, 255)),
+        ("a whole number above 255", (2, 5, 1)),
+        ("a whole number above 255", (2, 7, 128)),
+    ] {
+        assert_eq!(weighted_number(&[put]), 20, "{name}");
+        assert_eq!(weighted_number(&[put, no_count]), 20, "{name}");
+        assert_eq!(weighted_number(&[put, no_range]), 23, "{name}");
+    }
+    assert_eq!(weighted_number(&[no_count]), 21);
+}
+
+/// Question 3 does not bound the weight records: 256 can rise, and of these the first behind the segments is refused.
+#[test]
+fn more_weights_than_segments_give_20() {
+    let mut job = jobs::net(4, 64, Shape::Binary).with_fractions();
+    assert_eq!(assert_same_reply(&job.bytes(), "64 weights"), 0);
+    job.weights.extend((64..=255).map(|i| (i, Weight::Absent)));
+    assert_eq!(assert_same_reply(&job.bytes(), "256 weights"), 20);
+    job.weights.push((0, Weight::Absent));
+    assert_eq!(assert_same_reply(&job.bytes(), "257 weights"), 4);
+}
+
+/// The number that a fraction gives.
+fn fraction_number(fraction: f64) -> usize {
+    assert_same_reply(&weighted(Weight::Fraction(fraction)), &format!("{fraction:e}"))
+}
+
+/// Every count as a fraction, and those next to it; 0 of either sign.
+#[test]
+fn fractions_without_a_count_give_21() {
+    for count in 0..=255 {
+        let fraction = f64::from(count) / 256.0;
+        assert_eq!(fraction_number(fraction), 0, "{fraction}");
+        for near in [
+            fraction.next_up(),
+            fraction.next_down(),
+            fraction + 1.0,
+            fraction + 1.0 / 512.0,
+        ] {
+            assert_eq!(fraction_number(near), 21, "{near:e}");
+        }
+        assert_eq!(fraction_number(-fraction), if count == 0 { 0 } else { 21 }, "-{fraction}");
+    }
+    for fraction in [
+        1.0,
+        255.0,
+        f64::MIN_POSITIVE,
+        f64::MAX,
+        f64::MIN,
+        f64::INFINITY,
+        f64::NEG_INFINITY,
+    ] {
+        assert_eq!(fraction_number(fraction), 21, "{fraction:e}");
+    }
+    for bits in [0x7FF0_0000_0000_0001, 0x7FF8_0000_0000_0000, 0xFFF8_0000_0000_0000, u64::MAX] {
+        assert_eq!(fraction_number(f64::from_bits(bits)), 21, "{bits:x}");
     }
 }
