@@ -1,9 +1,6 @@
 -- A whole input counts bytes of the buffer: what a program's proof cites where it goes on with them.
-use mathlib.Core.Path.{◌≡◌}
-use mathlib.Core.List.{List}
-use Prim.Native.Nat.{ℕ}
-use Rattle.io.specs.Counts.{IsPrefixLen}
-use Rattle.console.specs.Read.{ReadInto}
+use Rattle.std.proofs.Common.{◌≡◌, ℕ, List}
+use Rattle.console.specs.Read.{IsPrefixLen, ReadInto}
 use Rattle.console.specs.declared.Input.{Input}
 use Rattle.console.specs.declared.Input.TheVariants.{Whole}
 

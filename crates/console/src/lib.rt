@@ -1,49 +1,79 @@
 // Standard input and output of the programs. The whole input is read before anything is written, and a read or a write that fails is told on
-// standard error: a program has no exit status.
-ghost use Rattle.std.specs.Prelude.{◌≤◌};
-ghost use Rattle.console.specs.Read.{ReadInto};
+// standard error.
+#![tactic(auto)]
 
-use libc::{STDERR_FILENO, STDIN_FILENO, STDOUT_FILENO};
+ghost use Rattle.std.specs.Prelude.{◌≤◌, length};
+ghost use Rattle.console.specs.Read.{GaveInto, ReadInto};
+
+use std::io;
+use std::io::{Read, Write};
 
 // The input of a program: all of it, or as much as the buffer holds; or a read failed, so that what came may be cut off anywhere.
-#[derive(Drop)]
+#[derive(Clone, Copy)]
 pub enum Input {
     Whole(usize),
     Failed,
 }
 
-// Reads standard input to its end, or until the buffer is full.
-pub fn read_input(input: &mut [u8]) -> Input
-    ensures { ReadInto input.new result }
+// Reads standard input to its end, or until the buffer is full. A read that fails is told.
+pub fn read_input<R: Read, E: Write>(stdin: &mut R, stderr: &mut E, input: &mut [u8]) -> Input
+    ensures counted { ReadInto input.new result }
+    ensures bytes { GaveInto (R.remaining stdin.old) (R.remaining stdin.new) input.new result }
 {
     let mut done: usize = 0;
     while done < input.len() {
-        let got = libc::read(STDIN_FILENO, &mut input[done..]);
-        if got < 0 {
-            return Input::Failed;
+        match stdin.read(&mut input[done..]) {
+            Ok(0) => return Input::Whole(done),
+            Ok(more) => done += more,
+            Err(error) => {
+                input_failed(stderr, error);
+                return Input::Failed;
+            }
         }
-        let more = io::count(got, &input[done..]);
-        if more == 0 {
-            return Input::Whole(done);
-        }
-        done += more;
     }
     Input::Whole(done)
 }
 
-// Tells that standard input could not be read, with the system's reason. Call it before any other call of the system.
-pub fn input_failed() {
-    os::fail(b"standard input");
+// Tells that standard input could not be read, with the system's reason.
+pub fn input_failed<E: Write>(stderr: &mut E, error: io::Error) {
+    tell(stderr, b"standard input: ", error);
 }
 
 // Writes bytes to standard output, and tells where that fails, with the system's reason.
-pub fn write_output(bytes: &[u8]) {
-    if !io::write_all(STDOUT_FILENO, bytes) {
-        os::fail(b"standard output");
+pub fn write_output<W: Write, E: Write>(stdout: &mut W, stderr: &mut E, bytes: &[u8]) {
+    if let Err(error) = stdout.write_all(bytes) {
+        tell(stderr, b"standard output: ", error);
     }
 }
 
-// Writes bytes to standard error.
-pub fn write_error(bytes: &[u8]) {
-    io::write_all(STDERR_FILENO, bytes);
+// Writes bytes to standard error. Where that fails there is nowhere left to tell it.
+pub fn write_error<E: Write>(stderr: &mut E, bytes: &[u8]) {
+    let _ = stderr.write_all(bytes);
 }
+
+// Tells what failed and why, in a line.
+fn tell<E: Write>(stderr: &mut E, what: &[u8], error: io::Error) {
+    // A reason has at most 256 bytes, and the number behind it at most 23.
+    let mut text = [0u8; 320];
+    let mut rest = &mut text[..];
+    let _ = write!(rest, "{error}");
+    let n = reason_len(&text);
+    write_error(stderr, what);
+    write_error(stderr, &text[..n]);
+    write_error(stderr, b"\n");
+}
+
+// How long the system's reason is at the front of the text of an error: std puts the error's number behind it, and zeros fill the rest.
+fn reason_len(text: &[u8]) -> usize
+    ensures { result ≤ length text.now }
+{
+    for i in 0..text.len() {
+        if text[i] == 0 || text[i..].starts_with(b" (os error ") {
+            return i;
+        }
+    }
+    text.len()
+}
+
+#[cfg(test)]
+mod tests;
