@@ -1,4 +1,6 @@
 // Questions 15 and 16: is a sizing long enough, and is each index in its place's range?
+#![tactic(auto)]
+
 ghost use Rattle.std.specs.Prelude.{◌≡◌, true, ◌<◌, ◌≤◌, length};
 ghost use Rattle.net.specs.Job.{places_by};
 ghost use Rattle.net.specs.Net.{net_by};

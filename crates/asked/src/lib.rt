@@ -1,4 +1,6 @@
 // Each of the questions 1 to 8, 20 and 22 to 24 by itself. Within a question all tests are asked, by `&`: a proof then has one way through it.
+#![tactic(auto)]
+
 ghost use Rattle.std.specs.Prelude.{◌≡◌, ◌≤◌};
 ghost use Rattle.net.specs.Job.{records};
 ghost use Rattle.net.specs.Net.{net_by};

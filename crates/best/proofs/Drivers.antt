@@ -7,7 +7,7 @@ use native.Mathlib.Omega.{arith}
 use Rattle.lattice.specs.Lists.{at}
 use Rattle.net.specs.declared.Counts.{Counts}
 use Rattle.net.specs.Job.{places_by}
-use Rattle.net.specs.Net.{Net, places, net_by}
+use Rattle.net.specs.Net.{Net, net_by}
 use Rattle.net.specs.Checked.{Checked, AllowedBy}
 use Rattle.net.specs.Driving.{slope}
 use Rattle.net.specs.Order.{places_before, position, order, by_position, placed_by, driving_by}

@@ -1,4 +1,6 @@
 // The best indices at one place of an allowed sizing, the rest held, and the delay that they reach.
+#![tactic(auto)]
+
 ghost use Rattle.std.specs.Prelude.{◌≡◌, ◌<◌};
 ghost use Rattle.net.specs.Job.{places_by};
 ghost use Rattle.net.specs.Net.{net_by};
@@ -14,7 +16,7 @@ use net::Counts;
 use quantity::{Capacitance, Delay, Resistance};
 
 // The smallest and the largest best index at a place, and the scaled delay of the sizing with either of them put there.
-#[derive(Drop)]
+#[derive(Clone, Copy)]
 pub struct EndsAndDelay {
     pub lowest: u8,
     pub highest: u8,

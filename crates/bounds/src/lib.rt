@@ -1,4 +1,6 @@
 // The lower and the upper bound of a net, found by refining at each place until no index changes, and the room between them. Sizings go by position.
+#![tactic(auto)]
+
 ghost use Rattle.std.specs.Prelude.{◌≡◌, suc, ◌-◌, ◌<◌, ◌≤◌};
 ghost use Rattle.net.specs.Job.{places_by};
 ghost use Rattle.net.specs.Order.{placed_by};

@@ -8,8 +8,7 @@ use native.Mathlib.Numerals.{add-one}
 use native.Mathlib.Omega.{arith}
 use Rattle.net.specs.declared.Counts.{Counts}
 use Rattle.net.specs.Net.{Net, net_by}
-use Rattle.net.specs.Delay.{repeated, delay}
-use Rattle.net.specs.Delay as net-delay
+use Rattle.net.specs.Delay.{repeated}
 use Rattle.net.specs.Segments.{forest}
 use Rattle.net.specs.Checked.{Ordered, Limited, InRanges}
 use Rattle.net.proofs.Branches.{branches-are}

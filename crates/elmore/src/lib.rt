@@ -1,4 +1,6 @@
 // The delay and the load figure of a sized net, in time linear in its segments.
+#![tactic(auto)]
+
 ghost use Rattle.std.specs.Prelude.{◌≡◌, suc, ◌<◌, ◌≤◌, length};
 ghost use Rattle.net.specs.Net.{net_by};
 ghost use Rattle.net.specs.Checked.{SinkWeights};

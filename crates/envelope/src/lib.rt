@@ -1,4 +1,6 @@
 // What a search keeps: the least delay so far, and the envelope from below and from above of the sizings that have it.
+#![tactic(auto)]
+
 ghost use Rattle.std.specs.Prelude.{◌≡◌, length};
 ghost use Rattle.lattice.specs.Side.{extreme};
 ghost use Rattle.lattice.specs.Space.{merge as merged};
@@ -39,8 +41,8 @@ pub fn keep(x: &[u8], d: Delay, least: Delay, lean: &mut [u8], wide: &mut [u8]) 
         ≡ taken x.now d.0 (found least.0 lean.old wide.old) }
 {
     if d.0 < least.0 {
-        bytes::copy(x, lean);
-        bytes::copy(x, wide);
+        lean.copy_from_slice(x);
+        wide.copy_from_slice(x);
         return d;
     }
     if d.0 == least.0 {

@@ -1,4 +1,6 @@
 // The finished reply: the search between the bounds finds the least delay, lean and wide, and they are written. Bounds and sizings go by position.
+#![tactic(auto)]
+
 ghost use Rattle.std.specs.Prelude.{◌≡◌, suc, ◌*◌, ◌≤◌, length};
 ghost use Rattle.net.specs.Job.{places_by};
 ghost use Rattle.net.specs.Checked.{Checked, ForPlaces};
@@ -30,7 +32,7 @@ fn least(
     requires lower_len { (length lower.now ≡ length x.old) × ForPlaces counts lean.old × ForPlaces counts wide.old }
     ensures { LeastBy counts job.now result.0 lean.new wide.new }
 {
-    bytes::copy(lower, x);
+    x.copy_from_slice(lower);
     search::between(
         job,
         counts,

@@ -1,5 +1,7 @@
 // The free places of a search, those that the bounds leave more than one index: where the load of each arrives, which of them comes before another, and
 // the sizings that differ at the last of them alone. Tables and sizings go by position.
+#![tactic(auto)]
+
 ghost use Rattle.std.specs.Prelude.{◌≡◌, ◌<◌, ◌≤◌, length};
 ghost use Rattle.envelope.specs.Kept.{found};
 ghost use Rattle.net.specs.Job.{places_by};
@@ -89,7 +91,7 @@ pub fn skip(job: &[u8], counts: Counts, lower: &[u8], upper: &[u8], skips: &mut 
 
 // A free place as the search tries its indices, from `low` to `top`: where the table of its layer starts, its length, its weight, the resistance
 // upstream before it and the load of the held places that it drives. All stays as it is whatever the indices of the free places.
-#[derive(Drop)]
+#[derive(Clone, Copy)]
 pub struct FreePlace {
     pub place: usize,
     pub rows: usize,

@@ -1,4 +1,6 @@
 // The fields of a job's records.
+#![tactic(auto)]
+
 ghost use Rattle.std.specs.Prelude.{◌≡◌, ◌+◌, ◌*◌, ◌^◌, ◌<◌, ◌≤◌, length};
 ghost use Rattle.lattice.specs.Lists.{at};
 ghost use Rattle.net.specs.Job.{byte, word, width_at, widths_of, first_row, size_at, place_at, segment_at, segment_length, segment_layer, places_by, weight_at};
@@ -13,14 +15,14 @@ use quantity::{Capacitance, Resistance};
 use text::widened;
 
 // A segment's wire at one of its widths.
-#[derive(Drop)]
+#[derive(Clone, Copy)]
 pub struct Wire {
     pub resistance: Resistance,
     pub capacitance: Capacitance,
 }
 
 // The lowest and the highest index that a place may have.
-#[derive(Drop)]
+#[derive(Clone, Copy)]
 pub struct Range {
     pub lowest: u8,
     pub highest: u8,

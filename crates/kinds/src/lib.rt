@@ -1,4 +1,6 @@
 // Where the run of each kind of record ends, and the counts of records by kind and of the widths by layer.
+#![tactic(auto)]
+
 ghost use Rattle.std.specs.Prelude.{◌≡◌, ◌*◌, ◌≤◌, length};
 ghost use Rattle.job.specs.Runs.{HasRun};
 ghost use Rattle.kinds.specs.Kinds.{Kinds, RunEnd, EndsOf};
@@ -7,7 +9,7 @@ ghost use Rattle.kinds.specs.Counted.{layer0_in, counts_to};
 use net::Counts;
 
 // Where the run of each kind of record ends.
-#[derive(Drop)]
+#[derive(Clone, Copy)]
 pub struct RunEnds {
     pub widths: usize,
     pub sizes: usize,

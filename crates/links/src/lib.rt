@@ -1,4 +1,6 @@
 // The segments at each node, found once for a job, so that a walk over the tree asks each segment once.
+#![tactic(auto)]
+
 ghost use Rattle.std.specs.Prelude.{◌≡◌, true, ◌+◌, ◌<◌, ◌≤◌, length};
 ghost use Rattle.net.specs.Questions.{question9};
 ghost use Rattle.net.specs.Checked.{Held};

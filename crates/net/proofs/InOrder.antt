@@ -13,7 +13,6 @@ use Rattle.lattice.proofs.Renumbering.{numbering-back, arranged-back, moved-subm
 use Rattle.net.specs.declared.Counts.{Counts}
 use Rattle.net.specs.Job.{of_kind, segment_layer}
 use Rattle.net.specs.Net.{Net, places, net_by}
-use Rattle.net.specs.Delay.{delay}
 use Rattle.net.specs.Segments.{total_weight}
 use Rattle.net.specs.Checked.{Checked, InRanges, Ordered, Limited}
 use Rattle.net.specs.Driving.{Driving, allowed_by, delay_at, load_at, slope, driven_load, delay_by, Placed, InLimits}

@@ -3,7 +3,7 @@
 use mathlib.Core.Path.{◌≡◌, ◌∙◌, refl, ap, fun_ext}
 use mathlib.Core.Bool.{Bool, true, false, ◌&&◌, and-true, true≢false}
 use mathlib.Core.List.{List, [], ◌∷◌, ◌++◌}
-use Prim.Native.Nat.{ℕ, suc, ◌+◌, ◌-◌, ◌≤◌, ◌<◌}
+use Prim.Native.Nat.{ℕ, zero, suc, ◌+◌, ◌-◌, ◌≤◌, ◌<◌}
 use native.Mathlib.Decide.{ℕ_discrete, dec_le}
 use native.Mathlib.Omega.{arith}
 use borrow.Author.Tests.{le-leb, lt-leb}
@@ -85,6 +85,7 @@ unweighted_questions b =
 -- What is counted nowhere is nowhere.
 none-counted : (f : ℕ → Bool) (n : ℕ) → count_if f n ≡ 0 → (k : ℕ) → k < n → f k ≡ false
 unfolding count_if
+none-counted f zero e k h = absurd (omega arith)
 none-counted f (suc n) e k h = go (f n) refl (ℕ_discrete k n) (λ d l. none-counted f n d k l)
   where
     go : (t : Bool) → f n ≡ t → Dec (k ≡ n) → (count_if f n ≡ 0 → k < n → f k ≡ false) → f k ≡ false

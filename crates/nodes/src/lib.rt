@@ -1,4 +1,6 @@
 // What hangs at each node of the tree, in one pass from the last segment to the first: what is below a segment has larger numbers.
+#![tactic(auto)]
+
 ghost use Rattle.std.specs.Prelude.{◌≡◌, suc, ◌<◌, replicate};
 ghost use Rattle.net.specs.Net.{net_by};
 ghost use Rattle.net.specs.Checked.{SinkWeights};

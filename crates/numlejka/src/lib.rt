@@ -1,4 +1,6 @@
 // The C interface: each operation returns its number and answers through the parameters that the caller lends.
+#![tactic(auto)]
+
 ghost use Rattle.std.specs.Prelude.{◌≡◌, length};
 ghost use Rattle.net.specs.Answers.{measured, refined, size_number, size_buffer};
 ghost use Rattle.net.specs.Promises.{Promises};

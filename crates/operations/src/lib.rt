@@ -1,4 +1,6 @@
 // measure, refine and choose: three of the four operations, total on every input.
+#![tactic(auto)]
+
 ghost use Rattle.std.specs.Prelude.{◌≡◌, true, false};
 ghost use Rattle.net.specs.Answers.{measured, refined, chosen};
 ghost use Rattle.operations.specs.Outcomes.{measured_by, refined_by, measure_refused, refine_refused, Preferred, from_second};
@@ -7,21 +9,21 @@ use best::EndsAndDelay;
 use stages::DelayAndLoad;
 
 // What measure answers: the figures of the sizing, or the number of the first question that fails.
-#[derive(Drop)]
+#[derive(Clone, Copy)]
 pub enum Measurement {
     Figures(DelayAndLoad),
     Refused(usize),
 }
 
 // What refine answers: the best indices with the delay reached, or the number of the first question that fails.
-#[derive(Drop)]
+#[derive(Clone, Copy)]
 pub enum Refinement {
     Best(EndsAndDelay),
     Refused(usize),
 }
 
 // Which of two sizings choose hands back, and how many bytes of it.
-#[derive(Drop)]
+#[derive(Clone, Copy)]
 pub enum Preference {
     First(usize),
     Second(usize),

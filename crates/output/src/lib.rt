@@ -1,4 +1,6 @@
 // What the programs write, put into lent buffers: the text of the sizing program, and the reply as bytes with the line beside it.
+#![tactic(auto)]
+
 ghost use Rattle.std.specs.Prelude.{◌≡◌, ◌++◌, suc, ◌+◌, ◌*◌, ◌≤◌, ◌<◌, ◌^◌, length};
 ghost use Rattle.io.specs.Counts.{IsPrefixLen as Within};
 ghost use Rattle.text.specs.Writing.{Wrote};
@@ -12,7 +14,7 @@ use quantity::Delay;
 use text::widened;
 
 // How many bytes a reply and the line beside it have.
-#[derive(Drop)]
+#[derive(Clone, Copy)]
 pub struct Lengths {
     pub reply: usize,
     pub line: usize,

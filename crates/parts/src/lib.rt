@@ -1,5 +1,7 @@
 // Parts of the tree and what is counted up over them: a segment with what hangs at its far end, branches behind a repeater, the whole behind the
 // stages.
+#![tactic(auto)]
+
 ghost use Rattle.std.specs.Prelude.{◌≡◌, suc, ◌+◌, ◌*◌, ◌<◌, length};
 ghost use Rattle.net.specs.Net.{net_by};
 ghost use Rattle.net.specs.Checked.{Checked, SinkWeights};
@@ -15,7 +17,7 @@ use quantity::{Capacitance, Delay};
 use stages::DelayAndLoad;
 
 // A segment with its wire at the sizing's width.
-#[derive(Drop)]
+#[derive(Clone, Copy)]
 pub struct Segment {
     pub weight: u64,
     pub sink: Capacitance,
@@ -23,7 +25,7 @@ pub struct Segment {
 }
 
 // A part of the tree: the weight of its sinks, its load as it is seen from above, and the scaled delay that arises inside it.
-#[derive(Drop)]
+#[derive(Clone, Copy)]
 pub struct Part {
     pub weight: u64,
     pub load: Capacitance,
@@ -31,7 +33,7 @@ pub struct Part {
 }
 
 // What hangs at a repeater's segment, and what the repeater charges; or the branches at the source, and what all repeaters charge.
-#[derive(Drop)]
+#[derive(Clone, Copy)]
 pub struct PartAndCharge {
     pub part: Part,
     pub charge: Capacitance,

@@ -1,7 +1,6 @@
 -- What the contracts of this crate and of those above it say, of the net of a job, by the counts of its records and its bytes. What one place adds is
 -- said of the place p by its number in the job; tables and sizings go by position.
 use Rattle.std.specs.Prelude.{◌≡◌, List, ℕ, ◌+◌, ◌*◌, ◌^◌, ◌≤◌, ◌<◌}
-use Rattle.lattice.specs.Lists.{at}
 use Rattle.lattice.specs.Space.{Allowed}
 use Rattle.net.specs.declared.Counts.{Counts}
 use Rattle.net.specs.Job.{byte, word, places_by, widths_of, first_row, place_at, size_resistance, size_gate, size_output, segment_layer}

@@ -1,5 +1,7 @@
 // What one place adds to the scaled delay, from what is known of the places that it drives, and what all held places add. A place is a driver or a
 // wire; tables and sizings go by position.
+#![tactic(auto)]
+
 ghost use Rattle.std.specs.Prelude.{◌≡◌, ◌+◌, ◌*◌, ◌^◌, ◌<◌, ◌≤◌, length};
 ghost use Rattle.lattice.specs.Lists.{at};
 ghost use Rattle.net.specs.Job.{first_row, segment_length, segment_layer, places_by};
@@ -13,7 +15,7 @@ use net::Counts;
 use quantity::{Capacitance, Delay, Resistance};
 
 // What a place adds at one of its indices: its part of the scaled delay with what its load costs upstream, and the load that it shows.
-#[derive(Drop)]
+#[derive(Clone, Copy)]
 pub struct PlaceStep {
     pub delay: Delay,
     pub load: Capacitance,

@@ -1,5 +1,7 @@
 // The places of a net in driving order: the stages, then each segment and directly behind it its repeater. A place's number there is called its
 // position; each stands after the one that drives it, so that one pass from the last position to the first finds what all drive.
+#![tactic(auto)]
+
 ghost use Rattle.std.specs.Prelude.{◌+◌, ◌<◌, ◌≤◌, length};
 ghost use Rattle.net.specs.Job.{places_by};
 ghost use Rattle.net.specs.Net.{net_by};

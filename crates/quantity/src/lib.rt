@@ -1,15 +1,17 @@
 // Resistance, capacitance and scaled delay, kept apart: one struct each. Only the functions here add or multiply them. A table that is lent
 // holds the numbers of one of them, and a number read from it becomes its struct at once.
+#![tactic(auto)]
+
 ghost use Rattle.std.specs.Prelude.{◌≡◌, ◌+◌, ◌*◌, ◌^◌, ◌<◌, ◌≤◌};
 
-#[derive(Drop)]
+#[derive(Clone, Copy)]
 pub struct Resistance(pub u64);
 
-#[derive(Drop)]
+#[derive(Clone, Copy)]
 pub struct Capacitance(pub u64);
 
 // Twice a delay, or a weighted sum of such.
-#[derive(Drop)]
+#[derive(Clone, Copy)]
 pub struct Delay(pub u64);
 
 // A figure per unit of length, times a length.

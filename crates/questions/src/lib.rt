@@ -1,4 +1,6 @@
 // Questions 1 to 11 and 20 to 24, in their order, asked of a job of any length, in time linear in it.
+#![tactic(auto)]
+
 ghost use Rattle.std.specs.Prelude.{◌≡◌, ◌<◌, ◌≤◌, length};
 ghost use Rattle.net.specs.Net.{net_by};
 ghost use Rattle.net.specs.Questions.{first_no};
@@ -11,7 +13,7 @@ use net::Counts;
 
 // The number of the first question that a job fails, 0 where it passes all; the count of its records; and, where it passes all, their counts by
 // kind.
-#[derive(Drop)]
+#[derive(Clone, Copy)]
 pub struct Outcome {
     pub number: usize,
     pub records: usize,

@@ -1,4 +1,6 @@
 // The best indices at one place, the rest of the sizing held: both ends of the tie, in one pass over the indices.
+#![tactic(auto)]
+
 ghost use Rattle.net.specs.Order.{placed_by};
 ghost use Rattle.net.specs.Checked.{Checked};
 ghost use Rattle.refine.specs.Settled.{SettleInLimits, Settled};
@@ -7,7 +9,7 @@ use net::Counts;
 use quantity::{Capacitance, Delay, Resistance};
 
 // The ends of a tie: the smallest and the largest best index, and what either costs.
-#[derive(Drop)]
+#[derive(Clone, Copy)]
 pub struct Ends {
     pub lowest: u8,
     pub highest: u8,

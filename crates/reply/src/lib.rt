@@ -1,5 +1,7 @@
 // Writes the reply of `size` into the caller's buffer: eight bytes for the delay and for each place. Bounds and sizings go by position; `position`
 // says where a place stands in them.
+#![tactic(auto)]
+
 ghost use Rattle.std.specs.Prelude.{◌≡◌, ◌+◌, ◌*◌, ◌≤◌, ◌<◌, suc, length};
 ghost use Rattle.std.proofs.lemmas.List.Edits.{sets};
 ghost use Rattle.net.specs.Answers.{little_endian};

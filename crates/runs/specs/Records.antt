@@ -1,7 +1,7 @@
 -- Tests of one record, which the questions ask of each record of a run. A run starts at the record `start`; k is a record's place in it, from 0.
 use Rattle.std.specs.Prelude.{Bool, ◌&&◌, List, ℕ, ◌+◌, ◌*◌, leb, ltb, eqb}
 use Rattle.lattice.specs.Lists.{every}
-use Rattle.net.specs.Job.{byte, word}
+use Rattle.net.specs.Job.{byte}
 use Rattle.net.specs.Questions.{in_range}
 use Rattle.job.specs.Runs.{byte_of, word_of}
 

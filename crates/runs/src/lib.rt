@@ -1,4 +1,6 @@
 // Tests of each record of a run: `count` records from the record `start` on. A test that fails ends its loop.
+#![tactic(auto)]
+
 ghost use Rattle.std.specs.Prelude.{◌≡◌, ◌&&◌, ◌+◌, ◌*◌, ◌-◌, ◌<◌, ◌≤◌, length};
 ghost use Rattle.lattice.specs.Lists.{every};
 ghost use Rattle.job.specs.Runs.{HasRun};

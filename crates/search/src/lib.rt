@@ -1,5 +1,7 @@
 // The search between the bounds, free place after free place, from the last position to the first; a place is free where the bounds leave it more
 // than one index. Tables and sizings go by position.
+#![tactic(auto)]
+
 ghost use Rattle.std.specs.Prelude.{◌≡◌, ◌<◌, length};
 ghost use Rattle.envelope.specs.Kept.{found};
 ghost use Rattle.net.specs.Checked.{ForPlaces};

@@ -1,5 +1,7 @@
 // Tests of each segment and of the segment of each repeater. A run is `count` records from the record `start` on; a test that fails ends its loop, but
 // for that of the far ends of segments, which goes along with another.
+#![tactic(auto)]
+
 ghost use Rattle.std.specs.Prelude.{◌≡◌, true, ◌&&◌, ◌-◌, ◌<◌, ◌≤◌, length};
 ghost use Rattle.lattice.specs.Lists.{every};
 ghost use Rattle.job.specs.Runs.{HasRun};
@@ -8,7 +10,7 @@ ghost use Rattle.segments.specs.Tests.{segment_fits, sink_or_branch, OwnWeights,
 use net::Counts;
 
 // Two tests of each segment: that of its fields, and, which says something only where the fields of all segments pass, that of its far end.
-#[derive(Drop)]
+#[derive(Clone, Copy)]
 pub struct SegmentTests {
     pub fields: bool,
     pub ends: bool,

@@ -41,6 +41,8 @@ counts-once (fin s m e) j k p q = eq_of_mul-eq-mul_right (down e) (down_pos e) j
 
 -- A float of value a / c that is k: a is k times c, and the sign is the value's.
 value-says : (x : Float) (s : Bool) (a c k : ℕ) → HasValue x s a c → IsWhole x k → (a ≡ k * c) × (s ≡ true → k ≡ 0)
+value-says nan s a c k v w = elim v [ ]
+value-says (inf t) s a c k v w = elim v [ ]
 value-says (fin t m e) s a c k v w = (
   eq_of_mul-eq-mul_right (down e) (down_pos e) a (k * c) (sym v.1 ∙ ap (λ (z : ℕ). z * c) w.0 ∙ mul_right_comm k (down e) c),
   λ u. w.1 (v.0 ∙ u),
@@ -48,6 +50,8 @@ value-says (fin t m e) s a c k v w = (
 
 -- A float of value a / c is k where a is k times c, and what is negative is 0.
 value-holds : (x : Float) (s : Bool) (a c k : ℕ) → 0 < c → HasValue x s a c → (a ≡ k * c) × (s ≡ true → k ≡ 0) → IsWhole x k
+value-holds nan s a c k h v w = elim v [ ]
+value-holds (inf t) s a c k h v w = elim v [ ]
 value-holds (fin t m e) s a c k h v w = (
   eq_of_mul-eq-mul_right c h (m * up e) (k * down e) (v.1 ∙ ap (λ (z : ℕ). z * down e) w.0 ∙ mul_right_comm k c (down e)),
   λ u. w.1 (sym v.0 ∙ u),
@@ -150,6 +154,8 @@ big m a = mul-le-mul_right {m = 1} {n = suc m * 2 ^ a} 256 (mul-pos {m = suc m} 
 -- What is above zero, and has the size k, is k.
 unsigned : (x : Float) (s : Bool) (k : ℕ) → T (above x) → IsWhole (signed s x) k → T (positive x) × HasValue x false k 1
 unfolding signed
+unsigned nan s k t w = elim t [ ]
+unsigned (inf t') s k t w = elim w [ ]
 unsigned (fin true n d) s k t w = absurd t
 unsigned (fin false n d) s k t w = (t, (refl, mul-one (n * up d) ∙ w.0))
 

@@ -45,6 +45,10 @@ whole-value k h = round_whole binary64 false k (le_trans (le_of_lt h) (lit≤ tt
 -- A float that equals one of value k is k.
 level-says : (x y : Float) (k : ℕ) → HasValue y false k 1 → eq x y ≡ true → IsWhole x k
 unfolding eq
+level-says (inf s) nan k v q = elim v [ ]
+level-says (inf s) (inf t) k v q = elim v [ ]
+level-says (fin s m e) nan k v q = elim v [ ]
+level-says (fin s m e) (inf t) k v q = elim v [ ]
 level-says nan y k v q = false≢true q
 level-says (inf s) (fin t n d) k v q = false≢true q
 level-says (fin s m e) (fin true n d) k v q = absurd (true≢false v.0)
@@ -64,6 +68,10 @@ level-says (fin s m e) (fin false n d) k v q =
 -- A float that is k equals one of value k.
 level_holds : (x y : Float) (k : ℕ) → HasValue y false k 1 → IsWhole x k → eq x y ≡ true
 unfolding eq
+level_holds nan y k v w = elim w [ ]
+level_holds (inf s) y k v w = elim w [ ]
+level_holds (fin s m e) nan k v w = elim v [ ]
+level_holds (fin s m e) (inf t) k v w = elim v [ ]
 level_holds (fin s m e) (fin true n d) k v w = absurd (true≢false v.0)
 level_holds (fin s m e) (fin false n d) k v w =
     let A = m * up e * down d in
@@ -102,6 +110,8 @@ part_small x e q = subst (λ (j : ℕ). j < 256) (sym e) (below-256 x q).1
 -- What is a whole number k below 256 is above -1 and below 256, and k is its whole part.
 pub whole-passes : (x : Float) (k : ℕ) → k < 256 → IsWhole x k → (lt (fin true 1 (pos 0)) x ≡ true) × (lt x (fin false 1 (pos 8)) ≡ true) × (to_unsigned 64 x ≡ k)
 unfolding lt to_unsigned
+whole-passes nan k h w = elim w [ ]
+whole-passes (inf s) k h w = elim w [ ]
 whole-passes (fin true m e) k h w =
     let p = down_pos e in
     let z : m * up e ≡ 0 = w.0 ∙ ap (λ (j : ℕ). j * down e) (w.1 refl) ∙ zero-mul (down e) in (

@@ -1,4 +1,6 @@
 // The weights of the sinks, loaded once for a job into a table: what a sink's fraction counts, and each weight record put at its segment.
+#![tactic(auto)]
+
 ghost use Rattle.std.specs.Prelude.{◌≡◌, suc, ◌<◌, ◌≤◌, true, false, not, ◌||◌, ◌==◌, from_bits};
 ghost use Rattle.std.specs.Float.Ieee.{nan_bits};
 ghost use Rattle.std.specs.Float.{binary64};
@@ -12,7 +14,7 @@ use net::Counts;
 use quantity::Capacitance;
 
 // The weight that a weight record has: a fraction, a whole number, or none.
-#[derive(Drop)]
+#[derive(Clone, Copy)]
 pub enum Weight {
     Fraction(f64),
     Whole(u8),
@@ -20,14 +22,14 @@ pub enum Weight {
 }
 
 // A sink's entry while a job is read: its fraction beside its capacitance.
-#[derive(Drop)]
+#[derive(Clone, Copy)]
 pub struct Sink {
     pub weight: f64,
     pub capacitance: Capacitance,
 }
 
 // What a fraction counts, a whole number from 0 to 255, or that it is refused.
-#[derive(Drop)]
+#[derive(Clone, Copy)]
 pub enum Counted {
     Count(u8),
     Refused,

@@ -1,4 +1,6 @@
 // size: the least scaled delay of a job, its bounds, and the least-delay sizings' envelopes, written as a reply.
+#![tactic(auto)]
+
 ghost use Rattle.std.specs.Prelude.{◌≡◌, suc, ◌*◌, ◌≤◌, length};
 ghost use Rattle.net.specs.Job.{places_by, counts_of};
 ghost use Rattle.net.specs.Net.{net_by};
@@ -17,7 +19,7 @@ use questions::Outcome;
 
 // What comes of sizing a job: the number of the first question that fails, 0 where none does; and, where the job passes its questions, the counts of
 // its records.
-#[derive(Drop)]
+#[derive(Clone, Copy)]
 pub struct NumberAndCounts {
     pub number: usize,
     pub counts: Counts,

@@ -1,4 +1,6 @@
 // What a driver, and the chain of stages, contributes to the delay of every sink, and what it charges.
+#![tactic(auto)]
+
 ghost use Rattle.std.specs.Prelude.{◌≡◌, ◌<◌, ◌≤◌};
 ghost use Rattle.net.specs.Net.{net_by};
 ghost use Rattle.net.specs.Delay.{branches_load, stage_load};
@@ -10,7 +12,7 @@ use net::Counts;
 use quantity::{Capacitance, Delay};
 
 // Of a sizing its scaled delay and its load figure; of a driver, or of all stages, what is contributed to every sink behind and what is charged.
-#[derive(Drop)]
+#[derive(Clone, Copy)]
 pub struct DelayAndLoad {
     pub delay: Delay,
     pub load: Capacitance,

@@ -1,5 +1,7 @@
 // Text in a lent buffer: bytes and decimal numbers, put from a position on.
 // A function puts what the buffer reaches and answers the position behind all that it had to put, so a buffer of no bytes measures a text.
+#![tactic(auto)]
+
 ghost use Rattle.std.specs.Prelude.{◌≡◌, ◌∷◌, [], ◌++◌, ◌+◌, ◌≤◌, ◌<◌, ◌^◌, length};
 ghost use Rattle.text.specs.Spelling.{spelling};
 ghost use Rattle.text.specs.Writing.{Wrote};

@@ -1,4 +1,6 @@
 // Tests of each weight record. A run is `count` records from the record `start` on; a test that fails ends its loop.
+#![tactic(auto)]
+
 ghost use Rattle.std.specs.Prelude.{◌≡◌, ◌-◌};
 ghost use Rattle.lattice.specs.Lists.{every};
 ghost use Rattle.job.specs.Runs.{HasRun};

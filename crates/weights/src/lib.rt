@@ -1,4 +1,6 @@
 // The weights of the places, by position: of a wire that of the sinks at or below its far end, of a driver twice that of the sinks that it drives.
+#![tactic(auto)]
+
 ghost use Rattle.std.specs.Prelude.{◌≡◌, ◌<◌, ◌≤◌, length};
 ghost use Rattle.net.specs.Job.{places_by};
 ghost use Rattle.net.specs.Checked.{Checked, SinkWeights};

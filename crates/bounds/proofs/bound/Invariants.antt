@@ -1,0 +1,13 @@
+-- `bounds::bound` meets its contract: the sizing stays on its way, and each sweep that changes it makes the slack smaller.
+use Rattle.lattice.specs.Refine.{slack, Approaching}
+use Rattle.lattice.specs.SideOf.{side_of}
+use Rattle.net.specs.Driving.{allowed_by, delay_by}
+use Rattle.net.specs.Order.{driving_by}
+use Rattle.bounds.proofs.bound.Given as goal
+
+abbrev pub invariant-loop-counts : goal.invariant-loop-counts
+invariant-loop-counts l =
+    Approaching (side_of l.side) (allowed_by (driving_by l.counts l.job)) (delay_by (driving_by l.counts l.job)) l.x
+
+abbrev pub decreases-loop-counts : goal.decreases-loop-counts
+decreases-loop-counts l = slack (side_of l.side) (allowed_by (driving_by l.counts l.job)) l.x

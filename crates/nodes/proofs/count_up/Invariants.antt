@@ -1,0 +1,10 @@
+-- `nodes::count_up` meets its contract; the loop's invariant is that the branches of the segments passed are in the table.
+use Rattle.net.specs.Net.{net_by}
+use Rattle.nodes.proofs.Counting.{CountedFrom}
+use Rattle.nodes.proofs.count_up.Given as goal
+
+abbrev pub invariant-loop-i : goal.invariant-loop-i
+invariant-loop-i l = CountedFrom (net_by l.counts l.job) l.sizing l.i l.nodes
+
+abbrev pub decreases-loop-i : goal.decreases-loop-i
+decreases-loop-i l = l.i
