@@ -120,29 +120,41 @@ class Jobs(unittest.TestCase):
 class Progress(unittest.TestCase):
     """How tools/progress tells what a command proves."""
 
-    COMMAND = "printf 'rt: lattice proved (2 s)\\nsome words\\nrt: net proved (unchanged since it was last proved)\\n'; exit 3"
+    COMMAND = """
+        echo 'crate lattice: modules loaded=0 checked=67'
+        echo 'logic=proved functions=0'
+        echo 'some words'
+        echo 'rt: chose --jobs 2 for net'
+        echo 'crate net: modules loaded=0 checked=119'
+        echo 'axioms std: none reached'
+        echo 'logic=proved functions=0'
+        basename "$PWD"
+        exit 3
+    """
 
     def setUp(self):
         self.folder = tempfile.TemporaryDirectory()
         self.log = pathlib.Path(self.folder.name) / "log"
-        self.words = [sys.executable, TOP / "tools/progress", self.log, "sh", "-c", self.COMMAND, "net"]
+        self.words = [sys.executable, TOP / "tools/progress", self.log, "net", "sh", "-c", self.COMMAND]
 
     def tearDown(self):
         self.folder.cleanup()
 
     def test_lines(self):
-        result = subprocess.run(self.words, cwd=TOP, capture_output=True)
+        result = subprocess.run(self.words, capture_output=True)
         self.assertEqual(result.returncode, 3)
         self.assertEqual(result.stdout, b"")
-        self.assertEqual(result.stderr, b"proved lattice (2 s), 1 of 3\n")
+        # `quantity`, of which the command says nothing, is counted with `net`, which stands on it.
+        self.assertRegex(result.stderr, b"^proved lattice \\([0-9]+ s\\), 1 of 3\nproved net \\([0-9]+ s\\), 3 of 3\n$")
         self.assertIn("some words\n", self.log.read_text())
+        self.assertTrue(self.log.read_text().endswith("\nnet\n"))
 
     def test_end_from_outside(self):
         mark = pathlib.Path(self.folder.name) / "mark"
-        words = [sys.executable, TOP / "tools/progress", self.log, "sh", "-c", f"echo started; sleep 3; touch '{mark}'"]
+        words = [*self.words[:4], "sh", "-c", f"echo started; sleep 3; touch '{mark}'"]
         for number in (signal.SIGTERM, signal.SIGINT, signal.SIGHUP):
             self.log.unlink(missing_ok=True)
-            process = subprocess.Popen(words, cwd=TOP, stderr=subprocess.PIPE)
+            process = subprocess.Popen(words, stderr=subprocess.PIPE)
             while not self.log.exists() or "started" not in self.log.read_text():
                 time.sleep(0.05)
             process.send_signal(number)
@@ -151,18 +163,24 @@ class Progress(unittest.TestCase):
             self.assertFalse(mark.exists())
 
     def test_no_such_command(self):
-        result = subprocess.run([*self.words[:3], "no-such-command"], cwd=TOP, capture_output=True)
+        result = subprocess.run([*self.words[:4], "no-such-command"], capture_output=True)
         self.assertEqual((result.returncode, result.stdout), (127, b""))
         self.assertEqual(result.stderr, b"progress: no-such-command: No such file or directory\n")
 
+    def test_no_such_crate(self):
+        result = subprocess.run([*self.words[:3], "none", "true"], capture_output=True)
+        self.assertEqual((result.returncode, result.stdout), (2, b""))
+        self.assertEqual(result.stderr, b"progress: crates.txt has no crate none\n")
+
     def test_line_that_moves(self):
         ours, theirs = pty.openpty()
-        result = subprocess.run(self.words, cwd=TOP, stdout=subprocess.PIPE, stderr=theirs)
+        result = subprocess.run(self.words, stdout=subprocess.PIPE, stderr=theirs)
         os.close(theirs)
         shown = os.read(ours, 4096).decode()
         os.close(ours)
         self.assertEqual((result.returncode, result.stdout), (3, b""))
-        self.assertRegex(shown, "\r\033\\[K2 of 3 crates proved, \\d+ min \\d\\d s, last net")
+        self.assertRegex(shown, "\r\033\\[K1 of 3 crates proved, \\d+ min \\d\\d s, at net")
+        self.assertRegex(shown, "\r\033\\[K3 of 3 crates proved, \\d+ min \\d\\d s, last net")
         self.assertTrue(shown.endswith("\r\033[K"))
 
 

@@ -1,14 +1,14 @@
-// Links the archive that `rt staticlib numlejka` writes in the repository above this folder.
+// Links the archive that `rt lib` writes in the folder crates/numlejka of the repository above this folder.
 use std::path::Path;
 
 fn main() {
     let here = std::env::var("CARGO_MANIFEST_DIR").expect("cargo sets CARGO_MANIFEST_DIR");
-    let folder = Path::new(&here).join("../../target/staticlib");
+    let folder = Path::new(&here).join("../../crates/numlejka/out");
     let archive = folder.join("libnumlejka.a");
     println!("cargo:rerun-if-changed={}", archive.display());
     if !archive.is_file() {
         panic!(
-            "{} is not there: run `rt staticlib numlejka` first",
+            "{} is not there: run `rt lib` in crates/numlejka first",
             archive.display()
         );
     }

@@ -24,9 +24,14 @@ fn top() -> PathBuf {
 /// The programs.
 const PROGRAMS: [&str; 2] = ["sizer", "sizer_reply"];
 
+/// Where `rt run` leaves a program.
+fn built(name: &str) -> PathBuf {
+    top().join("crates").join(name).join("out").join(name)
+}
+
 /// A program, not yet started.
 fn program(name: &str) -> Command {
-    Command::new(top().join("target/bin").join(name))
+    Command::new(built(name))
 }
 
 /// Runs a program on a job.
@@ -254,7 +259,7 @@ fn a_full_device_is_told() {
 #[test]
 fn a_closed_standard_output_and_a_closed_standard_input_are_told() {
     for name in PROGRAMS {
-        let path = top().join("target/bin").join(name);
+        let path = built(name);
         for (closed, line) in [
             (">&-", "standard output: Bad file descriptor"),
             ("<&-", "standard input: Bad file descriptor"),
