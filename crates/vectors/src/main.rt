@@ -2,7 +2,7 @@
 // A frame is a byte for the operation, then its arguments: a slice as a length of two bytes, the lowest first, and its bytes; a place as one byte.
 #![tactic(auto)]
 
-ghost use Rattle.std.specs.Prelude.{◌<◌, ◌≤◌, IfOk, length};
+ghost use Rattle.std.specs.Prelude.{◌≡◌, ◌<◌, ◌≤◌, IfOk, length};
 
 use operations::{Measurement, Refinement};
 use std::io;
@@ -45,7 +45,8 @@ fn read_byte<R: Read>(input: &mut R) -> io::Result<u8> {
 
 // Reads a slice into the front of a buffer; answers its length, 0 where it is longer than the buffer.
 fn read_slice<R: Read>(input: &mut R, buffer: &mut [u8]) -> io::Result<usize>
-    ensures { IfOk result (λ n. n ≤ length buffer.new) }
+    ensures within { IfOk result (λ n. n ≤ length buffer.new) }
+    ensures long { length buffer.new ≡ length buffer.old }
 {
     let low = value(read_byte(input)?);
     let n = low + 256 * value(read_byte(input)?);
