@@ -16,7 +16,6 @@ use Rattle.lattice.proofs.ListLaws.{at-tabulate}
 use Rattle.net.specs.Net.{Net, places, net_of}
 use Rattle.net.specs.declared.Counts.{Counts}
 use Rattle.net.specs.Job.{word, counts_of}
-use Rattle.net.specs.Sizings.{lean, wide}
 use Rattle.net.specs.Questions.{refusal}
 use Rattle.net.specs.Answers.{reply_length, size_number, finished_reply, bounds_reply, size_buffer}
 use Rattle.net.specs.Promises.{value_of, reply_delay, reply_bytes, Replied}

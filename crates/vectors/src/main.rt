@@ -6,7 +6,7 @@ ghost use Rattle.std.specs.Prelude.{◌≡◌, ◌<◌, ◌≤◌, IfOk, length}
 
 use operations::{Measurement, Refinement};
 use std::io;
-use std::io::{BufReader, BufWriter, Read, Write};
+use std::io::{Read, Write};
 
 fn say<W: Write>(out: &mut W, text: &[u8]) -> io::Result<()> {
     out.write_all(text)
@@ -172,11 +172,10 @@ fn calls<'a, R: Read, W: Write>(
 }
 
 fn main(rt: HostRuntime) -> io::Result<()> {
-    let mut input = BufReader::new(rt.alloc(), rt.stdin())?;
-    let mut out = BufWriter::new(rt.alloc(), rt.stdout())?;
+    let mut input = rt.stdin();
+    let mut out = rt.stdout();
     let mut job = [0u8; 2048];
     let mut second = [0u8; 1024];
     let mut third = [0u8; 1024];
-    calls(&mut input, &mut out, &mut job, &mut second, &mut third)?;
-    out.flush()
+    calls(&mut input, &mut out, &mut job, &mut second, &mut third)
 }

@@ -1,8 +1,5 @@
 -- `numlejka::numlejka_choose` meets its contract: each number is the one of the slice that prefer names.
-use mathlib.Core.Path.{subst}
-use Rattle.operations.specs.Outcomes.{Preferred}
 use Rattle.numlejka.proofs.Results.{choose-first, choose-second, choose-neither}
-use borrow.Author.Rules.{rules}
 use Rattle.numlejka.proofs.numlejka_choose.Goals as goal
 
 pub returns-in-First : goal.returns-in-First

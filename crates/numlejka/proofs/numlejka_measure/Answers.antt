@@ -1,6 +1,5 @@
 -- `numlejka::numlejka_measure` meets its contract: figures are written, a refusal writes nothing.
 use Rattle.numlejka.proofs.Results.{measure-answer, measure-refusal}
-use borrow.Author.Rules.{rules}
 use Rattle.numlejka.proofs.numlejka_measure.Goals as goal
 
 pub returns-in-Figures : goal.returns-in-Figures

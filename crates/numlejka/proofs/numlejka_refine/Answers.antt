@@ -1,6 +1,5 @@
 -- `numlejka::numlejka_refine` meets its contract: both ends and the delay are written, a refusal writes nothing.
 use Rattle.numlejka.proofs.Results.{refine-answer, refine-refusal}
-use borrow.Author.Rules.{rules}
 use Rattle.numlejka.proofs.numlejka_refine.Goals as goal
 
 pub returns-in-Best : goal.returns-in-Best

@@ -2,7 +2,6 @@
 use Rattle.output.proofs.Lines.{bounds-parts}
 use native.Mathlib.Omega.{arith}
 use Rattle.text.proofs.Writing.{wrote_then}
-use borrow.Author.Rules.{rules}
 use Rattle.output.proofs.put_bounds.Goals as goal
 
 pub returns : goal.returns

@@ -2,7 +2,6 @@
 use Rattle.text.proofs.Writing.{wrote_then}
 use Rattle.output.specs.Printed.{index_text}
 use native.Mathlib.Omega.{arith}
-use borrow.Author.Rules.{rules}
 use Rattle.output.proofs.put_index_then.Goals as goal
 
 pub returns-then-known : goal.returns-then-known

@@ -1,8 +1,7 @@
 -- `output::put_kind` meets its contract: the lines of the places from p + i on are left to put.
-use Prim.Native.Nat.{◌-◌}
 use native.Mathlib.Omega.{arith}
 use Rattle.text.proofs.Writing.{left-long}
-use Rattle.output.proofs.Lines.{Lined, lined-start, lined-step, lined-end}
+use Rattle.output.proofs.Lines.{lined-start, lined-step, lined-end}
 use Rattle.output.proofs.put_kind.Goals as goal
 
 pub loop-i-init : goal.loop-i-init

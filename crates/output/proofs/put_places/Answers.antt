@@ -2,7 +2,6 @@
 use Rattle.output.specs.Printed.{place_lines}
 use native.Mathlib.Omega.{arith}
 use Rattle.text.proofs.Writing.{wrote_then}
-use borrow.Author.Rules.{rules}
 use Rattle.output.proofs.put_places.Goals as goal
 
 pub returns : goal.returns

@@ -2,7 +2,6 @@
 use Rattle.output.proofs.Lines.{refused-parts}
 use native.Mathlib.Omega.{arith}
 use Rattle.text.proofs.Writing.{wrote_then}
-use borrow.Author.Rules.{rules}
 use Rattle.output.proofs.put_refusal.Goals as goal
 
 pub returns : goal.returns
