@@ -1,3 +1,5 @@
 pub mod WireAt
 pub mod Ranges
 pub mod Runs
+pub mod Tables
+pub mod RunOf

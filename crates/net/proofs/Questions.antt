@@ -272,7 +272,7 @@ checked-by c b e h a =
       sinks = λ i l. (segment-fields c b a i l).2;
       weights = weights c b a;
       sites = λ r l. ltb→lt _ _ (sited c b a r l).0;
-      branched = branched c b a;
+      branched = λ r l. ∣ branched c b a r l ∣₁;
       rising = rising c b a;
     }
 

@@ -58,7 +58,7 @@ pub record Checked (c : Counts) (b : List ℕ) : Type 0 where
   pub weights : (i : ℕ) → i < c.segments → (net_by c b).weight i ≤ 255
   -- 22
   pub sites : (r : ℕ) → r < c.repeaters → (net_by c b).site r < c.segments
-  pub branched : (r : ℕ) → r < c.repeaters → (j : ℕ) × (j < c.segments) × ((net_by c b).parent j ≡ suc ((net_by c b).site r))
+  pub branched : (r : ℕ) → r < c.repeaters → ∥ ((j : ℕ) × (j < c.segments) × ((net_by c b).parent j ≡ suc ((net_by c b).site r))) ∥₁
   pub rising : (r : ℕ) → suc r < c.repeaters → (net_by c b).site r < (net_by c b).site (suc r)
 
 -- t is a table of the weights of the segments' sinks, which a job's check fills.

@@ -1,0 +1,47 @@
+// Why a call is refused: the question whose answer is no. C is told its number.
+#![tactic(auto)]
+
+ghost use Rattle.std.specs.Prelude.{◌≡◌, cond};
+ghost use Rattle.refusal.specs.Numbers.{number_of, refusal_number};
+
+// The questions, each by what it asks of the job, of a sizing or of the call, with its number.
+#[derive(Clone, Copy, PartialEq, Eq, Debug)]
+pub enum Refusal {
+    Length = 1,
+    Kinds = 2,
+    Counts = 3,
+    Numbers = 4,
+    UnnamedBytes = 5,
+    Values = 6,
+    Tables = 7,
+    StageRanges = 8,
+    Parents = 9,
+    SegmentFields = 10,
+    OpenEnds = 11,
+    ReplyLength = 12,
+    Room = 14,
+    SizingLength = 15,
+    Indices = 16,
+    Place = 17,
+    WeightRecords = 20,
+    Fractions = 21,
+    RepeaterSites = 22,
+    RepeaterRanges = 23,
+    Layers = 24,
+}
+
+impl Refusal {
+    // The number of the question.
+    pub fn number(self) -> usize
+        ensures { result ≡ number_of self }
+    {
+        self as usize
+    }
+}
+
+// Goes on where a question is passed, and is refused where it is not.
+pub fn require(passed: bool, refusal: Refusal) -> Result<(), Refusal>
+    ensures { refusal_number result ≡ cond passed 0 (number_of refusal) }
+{
+    if passed { Ok(()) } else { Err(refusal) }
+}
