@@ -3,8 +3,7 @@
 use mathlib.Core.Path.{◌≡◌, ◌∙◌, refl, sym}
 use mathlib.Core.Bool.{Bool, true, false, not, ◌&&◌, true≢false}
 use mathlib.Core.List.{List}
-use Prim.Native.Nat.{ℕ, suc, ◌+◌, ◌-◌, ◌≤◌, ◌<◌}
-use native.Mathlib.Numerals.{add-one}
+use Prim.Native.Nat.{ℕ, suc, ◌-◌, ◌≤◌, ◌<◌}
 use native.Mathlib.Decide.{dec_le}
 use native.Mathlib.Omega.{arith}
 use borrow.Author.Tests.{not-false, ne_eqb, eq-eqb}
@@ -17,8 +16,7 @@ use Rattle.net.specs.Questions.{in_range, question2}
 use Rattle.net.proofs.Records.{never-falls, counts-none, counts_each, counts-alike}
 use Rattle.net.proofs.Questions.{in-range}
 use Rattle.kinds.specs.declared.RunEnds.{RunEnds}
-use Rattle.kinds.specs.Kinds.{Kinds, Run, RunEnd, EndsOf}
-use Rattle.job.specs.Runs.{byte_of}
+use Rattle.kinds.specs.Kinds.{Kinds, RunEnd, EndsOf}
 use Rattle.kinds.specs.Counted.{layer0_in, counts_to}
 
 -- What question 2 gives.
@@ -42,44 +40,6 @@ kinds-pass b h =
     let a = at_every (records b) known (λ k l. T_and (leb 1 (kind b k)) (leb (kind b k) 6) (least k l) (most k l)) in
     let o = at_every (records b - 1) order (λ k l. le→leb (kind b k) (kind b (suc k)) (h.order k (suc k) (omega arith) (omega arith))) in
     rw (is_true (every (records b) known) a, is_true (every (records b - 1) order) o)
-
--- The loop that looks for the end of a run.
-pub run_none : {b : List ℕ} {n m p : ℕ} → p ≤ n → Run b n m p p
-run_none h = record { starts = omega arith; within = h; alike = λ k i l. absurd (omega arith) }
-
-module _ {b : List ℕ} {n m p k : ℕ} (u : Run b n m p k) where
-  -- v is the kind of record k
-  pub run_on : {v : ℕ} → k < n → v ≡ kind b k → v ≡ m → Run b n m p (k + 1)
-  run_on {v} h e l = record { starts = omega (arith, u.starts); within = omega arith; alike = λ j i a. go j i (omega arith) (dec_le (suc j) k) }
-    where
-      go : (j : ℕ) → p ≤ j → j ≤ k → Dec (j < k) → kind b j ≡ m
-      go j i g (yes a) = u.alike j i a
-      go j i g (no a) = let d : j ≡ k = omega arith in rw d (sym e ∙ l)
-
-  pub stops-here : {v : ℕ} → v ≡ kind b k → (v ≡ m → ⊥) → RunEnd b n m p k
-  stops-here e l = record { run = u; stops = λ h d. l (e ∙ d) }
-
-  pub stops-last : n ≤ k → RunEnd b n m p n
-  stops-last h =
-      let e : k ≡ n = omega (arith, u.within) in
-      record { run = rw e at u; stops = λ i. absurd (omega arith) }
-
--- The loop that counts the widths of layer 0: v is the layer byte of record k.
-pub counts-nothing : (b : List ℕ) → 0 ≡ layer0_in b 0
-unfolding count_if
-counts-nothing b = refl
-
-module _ (b : List ℕ) (k : ℕ) {m v : ℕ} (e : m ≡ layer0_in b k) (f : v ≡ byte_of b 0 2 k) where
-  layer-is : width_layer b k ≡ v
-  layer-is = let g : 0 + k ≡ k = omega arith in rw g at (sym f)
-
-  pub counts-one : v ≡ 0 → m + 1 ≡ layer0_in b (k + 1)
-  unfolding count_if
-  counts-one z = rw (add-one k, layer-is, z) (omega (arith, e))
-
-  pub counts-no-more : (v ≡ 0 → ⊥) → m ≡ layer0_in b (k + 1)
-  unfolding count_if
-  counts-no-more z = rw (add-one k, layer-is, ne_eqb v 0 z) (omega (arith, e))
 
 -- Of n records the first r are of kinds 1 to m and never fall; and where the kinds of all are 1 to 6 and never fall, the others are above m.
 record Front (b : List ℕ) (n m r : ℕ) : Type 0 where

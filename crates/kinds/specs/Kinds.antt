@@ -2,6 +2,17 @@
 use Rattle.std.specs.Prelude.{◌≡◌, List, ℕ, ◌≤◌, ◌<◌}
 use Rattle.net.specs.Job.{kind}
 use Rattle.kinds.specs.declared.RunEnds.{RunEnds}
+use Rattle.kinds.specs.declared.Kind.{Kind}
+use Rattle.kinds.specs.declared.Kind.TheVariants.{Width, Size, Stage, Segment, Repeater, Weight}
+
+-- The number of a kind.
+abbrev pub number_of : Kind → ℕ
+number_of Width = 1
+number_of Size = 2
+number_of Stage = 3
+number_of Segment = 4
+number_of Repeater = 5
+number_of Weight = 6
 
 -- The kinds of the first n records are 1 to 6 and never fall.
 pub record Kinds (b : List ℕ) (n : ℕ) : Type 0 where

@@ -3,6 +3,4 @@ use Rattle.kinds.proofs.Ends.{counts-runs}
 use Rattle.kinds.proofs.count.Goals as goal
 
 pub returns : goal.returns
-returns c =
-    let a = c in
-    counts-runs a.requires.ends_of a.requires.kinds c.count_layer0-layer0.ensures
+returns c = counts-runs c.requires.ends_of c.requires.kinds c.count_layer0.ensures
