@@ -6,8 +6,7 @@ use mathlib.Core.List.{List}
 use Prim.Native.Nat.{ℕ, suc, ◌+◌, ◌-◌, ◌≤◌, ◌<◌}
 use native.Mathlib.Nat.{eq-or-lt_of_le, le_of_suc-le-suc}
 use native.Mathlib.Omega.{arith}
-use lib.ListN.{length, set, length-set}
-use lib.Seq.{get_or-set_same, get_or-set_other}
+use lib.ListN.{length, set}
 use Rattle.lattice.specs.Lists.{at}
 use Rattle.net.specs.declared.Counts.{Counts}
 use Rattle.net.specs.Job.{places_by, of_kind}
@@ -116,15 +115,3 @@ pub record HangsTo (c : Counts) (b : List ℕ) (t : ℕ) (hangs : List ℕ) : Ty
   pub long : places_by c ≤ length hangs
   pub few : t ≤ places_by c
   pub held : (u : ℕ) → u < t → at hangs u ≡ (driving_by c b).hangs_at u
-
-pub hangs-step : {c : Counts} {b : List ℕ} (t : ℕ) (hangs : List ℕ) (v : ℕ) → t < places_by c → v ≡ (driving_by c b).hangs_at t → HangsTo c b t hangs → HangsTo c b (t + 1) (set hangs t v)
-hangs-step {c} {b} t hangs v h e m =
-    record {
-      long = rw (length-set hangs t v) m.long;
-      few = omega arith;
-      held = λ u l. go u (eq-or-lt_of_le (le_of_suc-le-suc (omega arith)));
-    }
-  where
-    go : (u : ℕ) → (u ≡ t) ⊎ (u < t) → at (set hangs t v) u ≡ (driving_by c b).hangs_at u
-    go u (inl f) = rw f (get_or-set_same hangs t v 0 (omega (arith, m.long)) ∙ e)
-    go u (inr l) = get_or-set_other hangs t u v 0 (λ f. omega arith) ∙ m.held u l

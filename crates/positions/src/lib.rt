@@ -2,92 +2,109 @@
 // position; each stands after the one that drives it, so that one pass from the last position to the first finds what all drive.
 #![tactic(auto)]
 
-ghost use Rattle.std.specs.Prelude.{◌+◌, ◌<◌, ◌≤◌, length};
+ghost use Rattle.std.specs.Prelude.{◌≡◌, ◌+◌, ◌<◌, set};
 ghost use Rattle.net.specs.Job.{places_by};
 ghost use Rattle.net.specs.Net.{net_by};
-ghost use Rattle.net.specs.Checked.{Checked};
 ghost use Rattle.net.specs.Order.{Run, InOrder};
 ghost use Rattle.positions.specs.Arranged.{AllInOrder, HangsAt, PlacesInOrder, PositionsOf, NodesOf};
 
-use net::Counts;
+use job::Job;
 
-// Puts the places from `start` to `end`, the end left out, behind which `passed` repeaters have been put.
-fn put_run(
-    job: &[u8],
-    counts: Counts,
-    start: usize,
-    end: usize,
-    passed: usize,
-    order: &mut [usize; 76],
-    position: &mut [usize; 76],
-)
-    requires checked { Checked counts job.now }
-    requires run { Run (net_by counts job.now) start end passed }
-    requires in_order { InOrder (net_by counts job.now) (start + passed) order.old position.old }
-    ensures { InOrder (net_by counts job.now) (end + passed) order.new position.new }
-{
-    let mut p = start;
-    while p < end {
-        order[p + passed] = p;
-        position[p] = p + passed;
-        p += 1;
+// A job with its driving order: the places by position, the position of each place, and by position the node that it hangs at.
+#[derive(Clone, Copy)]
+pub struct Arranged<'a> {
+    pub job: Job<'a>,
+    pub order: [usize; 76],
+    pub position: [usize; 76],
+    pub hangs: [usize; 76],
+    ghost in_order: { PlacesInOrder job.counts job.bytes.now order },
+    ghost positions: { PositionsOf job.counts job.bytes.now position },
+    ghost nodes: { NodesOf job.counts job.bytes.now hangs },
+}
+
+// Two sizings by position, that free places are sized between.
+#[derive(Clone, Copy)]
+pub struct Bounds<'b> {
+    pub lower: &'b [u8],
+    pub upper: &'b [u8],
+}
+
+// The places by position and the position of each place, while they are put in order.
+struct Tables {
+    order: [usize; 76],
+    position: [usize; 76],
+}
+
+impl Tables {
+    // Puts place p at position t.
+    fn put(&mut self, p: usize, t: usize)
+        requires { (p < 76) × (t < 76) }
+        ensures order { self.new.order ≡ set self.old.order t p }
+        ensures position { self.new.position ≡ set self.old.position p t }
+    {
+        self.order[t] = p;
+        self.position[p] = t;
+    }
+
+    // Puts the places from `start` to `end`, the end left out, behind which `passed` repeaters have been put.
+    fn put_run(&mut self, job: &Job<'_>, start: usize, end: usize, passed: usize)
+        requires run { Run (net_by job.now.counts job.now.bytes.now) start end passed }
+        requires in_order { InOrder (net_by job.now.counts job.now.bytes.now) (start + passed) self.old.order self.old.position }
+        ensures { InOrder (net_by job.now.counts job.now.bytes.now) (end + passed) self.new.order self.new.position }
+    {
+        for p in start..end {
+            self.put(p, p + passed);
+        }
     }
 }
 
 // Puts all places in order: run after run of those between two repeaters.
-fn put_in_order(job: &[u8], counts: Counts, order: &mut [usize; 76], position: &mut [usize; 76])
-    requires checked { Checked counts job.now }
-    requires counts_in_bounds { (places_by counts ≤ length order.old) × (places_by counts ≤ length position.old) }
-    ensures { AllInOrder counts job.now order.new position.new }
+fn put_in_order(job: &Job<'_>) -> Tables
+    ensures { AllInOrder job.now.counts job.now.bytes.now result.order result.position }
 {
-    let places = counts.stages + counts.segments;
+    let mut tables = Tables {
+        order: [0; 76],
+        position: [0; 76],
+    };
+    let places = job.counts.stages + job.counts.segments;
     let mut start = 0;
-    let mut r = 0;
-    while r < counts.repeaters {
-        let end = counts.stages + job::site(job, counts, r) + 1;
-        put_run(job, counts, start, end, r, order, position);
-        order[end + r] = places + r;
-        position[places + r] = end + r;
+    for r in 0..job.counts.repeaters {
+        let end = job.counts.stages + job.site(r) + 1;
+        tables.put_run(job, start, end, r);
+        tables.put(places + r, end + r);
         start = end;
-        r += 1;
     }
-    put_run(job, counts, start, places, r, order, position);
+    tables.put_run(job, start, places, job.counts.repeaters);
+    tables
 }
 
 // The node that place p hangs at: a segment at the position of the segment whose number is its parent byte, because the branches at a node hang
 // behind all that stands before that segment; a driver directly behind the place before it.
-fn hangs_at(job: &[u8], counts: Counts, position: &[usize; 76], p: usize) -> usize
-    requires checked { Checked counts job.now }
-    requires positions_of { PositionsOf counts job.now position.now }
-    requires p_bound { p < places_by counts }
-    ensures { HangsAt counts job.now p result }
+fn hangs_at(job: &Job<'_>, position: &[usize; 76], p: usize) -> usize
+    requires positions_of { PositionsOf job.now.counts job.now.bytes.now position.now }
+    requires p_bound { p < places_by job.now.counts }
+    ensures { HangsAt job.now.counts job.now.bytes.now p result }
 {
-    if job::is_driver(counts, p) {
+    if job.is_driver(p) {
         return position[p];
     }
-    let node = job::parent(job, counts, p - counts.stages);
-    position[counts.stages + node]
+    let node = job.parent(p - job.counts.stages);
+    position[job.counts.stages + node]
 }
 
-// The places by position, the position of each place, and by position the node that it hangs at.
-pub fn arrange(
-    job: &[u8],
-    counts: Counts,
-    order: &mut [usize; 76],
-    position: &mut [usize; 76],
-    hangs: &mut [usize; 76],
-)
-    requires checked { Checked counts job.now }
-    requires counts_in_bounds { (places_by counts ≤ length order.old) × (places_by counts ≤ length position.old) × (places_by counts ≤ length hangs.old) }
-    ensures order { PlacesInOrder counts job.now order.new }
-    ensures position { PositionsOf counts job.now position.new }
-    ensures hangs { NodesOf counts job.now hangs.new }
+// The job with its driving order.
+pub fn arrange<'a>(job: Job<'a>) -> Arranged<'a>
+    ensures { result.job ≡ job.entry }
 {
-    put_in_order(job, counts, order, position);
-    let places = counts.stages + counts.segments + counts.repeaters;
-    let mut t = 0;
-    while t < places {
-        hangs[t] = hangs_at(job, counts, position, order[t]);
-        t += 1;
+    let Tables { order, position } = put_in_order(&job);
+    let mut hangs = [0; 76];
+    for t in 0..job.places() {
+        hangs[t] = hangs_at(&job, &position, order[t]);
+    }
+    Arranged {
+        job,
+        order,
+        position,
+        hangs,
     }
 }
