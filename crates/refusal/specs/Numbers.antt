@@ -1,7 +1,7 @@
 -- The number of each question, and the number that a call's result stands for.
 use Rattle.std.specs.Prelude.{ℕ, Result, Ok, Err}
 use Rattle.refusal.specs.declared.Refusal.{Refusal}
-use Rattle.refusal.specs.declared.Refusal.TheVariants.{Length, Kinds, Counts, Numbers, UnnamedBytes, Values, Tables, StageRanges, Parents, SegmentFields, OpenEnds, ReplyLength, Room, SizingLength, Indices, Place, WeightRecords, Fractions, RepeaterSites, RepeaterRanges, Layers}
+use Rattle.refusal.specs.declared.Refusal.TheVariants.{Length, Kinds, Counts, Numbers, UnnamedBytes, Values, Tables, StageRanges, Parents, SegmentFields, OpenEnds, SizingLength, Indices, Place, WeightRecords, Fractions, RepeaterSites, RepeaterRanges, Layers}
 
 abbrev pub number_of : Refusal → ℕ
 number_of Length = 1
@@ -15,8 +15,6 @@ number_of StageRanges = 8
 number_of Parents = 9
 number_of SegmentFields = 10
 number_of OpenEnds = 11
-number_of ReplyLength = 12
-number_of Room = 14
 number_of SizingLength = 15
 number_of Indices = 16
 number_of Place = 17

@@ -1,10 +1,10 @@
-// Why a call is refused: the question whose answer is no. C is told its number.
+// Why a call is refused: the question of a job, of a sizing or of a place whose answer is no. C is told its number.
 #![tactic(auto)]
 
 ghost use Rattle.std.specs.Prelude.{◌≡◌, cond};
 ghost use Rattle.refusal.specs.Numbers.{number_of, refusal_number};
 
-// The questions, each by what it asks of the job, of a sizing or of the call, with its number.
+// The questions of a job, of a sizing and of a place, each by what it asks, with its number.
 #[derive(Clone, Copy, PartialEq, Eq, Debug)]
 pub enum Refusal {
     Length = 1,
@@ -18,8 +18,6 @@ pub enum Refusal {
     Parents = 9,
     SegmentFields = 10,
     OpenEnds = 11,
-    ReplyLength = 12,
-    Room = 14,
     SizingLength = 15,
     Indices = 16,
     Place = 17,
