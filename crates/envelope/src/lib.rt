@@ -6,7 +6,7 @@ ghost use Rattle.lattice.specs.Side.{extreme};
 ghost use Rattle.lattice.specs.Space.{merge as merged};
 ghost use Rattle.lattice.specs.Search.{take as taken};
 ghost use Rattle.lattice.specs.SideOf.{side_of};
-ghost use Rattle.envelope.specs.Kept.{found};
+ghost use Rattle.envelope.specs.Kept.{found_of, SameSpace};
 
 use lattice::Side;
 use quantity::Delay;
@@ -16,8 +16,8 @@ fn first_seen(side: Side, a: u8, b: u8) -> u8
     ensures { result ≡ extreme (side_of side) a b }
 {
     match side {
-        Side::Below => if a < b { a } else { b },
-        Side::Above => if a < b { b } else { a },
+        Side::Below => a.min(b),
+        Side::Above => a.max(b),
     }
 }
 
@@ -26,28 +26,33 @@ fn merge(x: &[u8], best: &mut [u8], side: Side)
     requires { length x.now ≡ length best.old }
     ensures { best.new ≡ merged (side_of side) x.now best.old }
 {
-    let mut i = 0;
-    while i < x.len() {
-        best[i] = first_seen(side, x[i], best[i]);
-        i += 1;
+    for (i, k) in x.iter().enumerate() {
+        best[i] = first_seen(side, *k, best[i]);
     }
 }
 
-// Takes one more sizing x, of delay d, into the least delay and both envelopes.
-pub fn keep(x: &[u8], d: Delay, least: Delay, lean: &mut [u8], wide: &mut [u8]) -> Delay
-    requires x_len { length x.now ≡ length lean.old }
-    requires x_len_2 { length x.now ≡ length wide.old }
-    ensures { found result.0 lean.new wide.new
-        ≡ taken x.now d.0 (found least.0 lean.old wide.old) }
-{
-    if d.0 < least.0 {
-        lean.copy_from_slice(x);
-        wide.copy_from_slice(x);
-        return d;
+// The least delay so far, and in lent space, at each place, the smallest and the largest index of the sizings that have it.
+pub struct Kept<'k> {
+    pub least: Delay,
+    pub lean: &'k mut [u8],
+    pub wide: &'k mut [u8],
+}
+
+impl Kept<'_> {
+    // Takes one more sizing x, of delay d, into the least delay and both envelopes.
+    pub fn keep(&mut self, x: &[u8], d: Delay)
+        requires lean_len { length x.now ≡ length self.old.lean.now }
+        requires wide_len { length x.now ≡ length self.old.wide.now }
+        ensures same_space { SameSpace self.old self.new }
+        ensures taken { found_of self.new ≡ taken x.now d.0 (found_of self.old) }
+    {
+        if d < self.least {
+            self.least = d;
+            self.lean.copy_from_slice(x);
+            self.wide.copy_from_slice(x);
+        } else if d == self.least {
+            merge(x, self.lean, Side::Below);
+            merge(x, self.wide, Side::Above);
+        }
     }
-    if d.0 == least.0 {
-        merge(x, lean, Side::Below);
-        merge(x, wide, Side::Above);
-    }
-    least
 }

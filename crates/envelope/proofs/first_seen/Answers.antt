@@ -1,15 +1,8 @@
--- `envelope::first_seen` meets its contract: each arm is the definition at its side.
-use native.Mathlib.Omega.{arith}
+-- Each arm is the definition at its side.
 use Rattle.envelope.proofs.first_seen.Goals as goal
 
-pub returns-then-a-b : goal.returns-then-a-b
-returns-then-a-b c = rw c.in-Below.is (omega arith)
+pub returns-in-Below : goal.returns-in-Below
+returns-in-Below c = rw c.in-Below.is c.min.ensures
 
-pub returns-else-a-b : goal.returns-else-a-b
-returns-else-a-b c = rw c.in-Below.is (omega arith)
-
-pub returns-then-a-b-2 : goal.returns-then-a-b-2
-returns-then-a-b-2 c = rw c.in-Above.is (omega arith)
-
-pub returns-else-a-b-2 : goal.returns-else-a-b-2
-returns-else-a-b-2 c = rw c.in-Above.is (omega arith)
+pub returns-in-Above : goal.returns-in-Above
+returns-in-Above c = rw c.in-Above.is c.max.ensures

@@ -1,4 +1,4 @@
--- `envelope::merge` meets its contract: the loop has merged the places before i.
+-- The loop has merged the places before i.
 use native.Mathlib.Omega.{arith}
 use Rattle.envelope.proofs.Merging.{merging_start, merging-step, merging-end}
 use Rattle.envelope.proofs.merge.Goals as goal
@@ -10,9 +10,6 @@ pub loop-i-preserved : goal.loop-i-preserved
 loop-i-preserved c =
     let l = c.loop-i in
     rw c.first_seen.ensures (merging-step _ _ _ l.i l.best l.invariant (omega arith))
-
-pub shape_of-best : goal.shape_of-best
-shape_of-best c = c.loop-i.invariant.long
 
 pub returns : goal.returns
 returns c = merging-end _ _ _ c.loop-i.i c.loop-i.best c.loop-i.invariant (omega arith)
