@@ -4,12 +4,13 @@
 ghost use Rattle.std.specs.Prelude.{◌≡◌, ◌<◌, ◌≤◌};
 ghost use Rattle.net.specs.Net.{net_by};
 ghost use Rattle.net.specs.Delay.{branches_load, stage_load};
-ghost use Rattle.net.specs.Checked.{Checked};
-ghost use Rattle.stages.specs.Ready.{Ready};
 ghost use Rattle.stages.specs.Charges.{DriverOf, StageOf, StagesOf};
 
-use net::Counts;
+mod sized;
+
+use job::Job;
 use quantity::{Capacitance, Delay};
+pub use sized::SizedJob;
 
 // Of a sizing its scaled delay and its load figure; of a driver, or of all stages, what is contributed to every sink behind and what is charged.
 #[derive(Clone, Copy)]
@@ -19,69 +20,50 @@ pub struct DelayAndLoad {
 }
 
 // What a driver of the size k contributes to every sink behind it, and what it charges: its own output and the load that it drives.
-pub fn driver(job: &[u8], counts: Counts, k: usize, load: Capacitance) -> DelayAndLoad
-    requires checked { Checked counts job.now }
-    requires k_lt_sizes { (k < counts.sizes) × (load.0 ≤ 13600000) }
-    ensures { DriverOf (net_by counts job.now) k load.0 result }
+pub fn driver(job: &Job<'_>, k: usize, load: Capacitance) -> DelayAndLoad
+    requires { (k < job.now.counts.sizes) × (load.0 ≤ 13600000) }
+    ensures { DriverOf (net_by job.now.counts job.now.bytes.now) k load.0 result }
 {
-    let own = job::output(job, counts, k);
-    let resistance = job::driver_resistance(job, counts, k);
-    let charge = quantity::add_capacitance(own, load);
+    let charge = job.output(k) + load;
     DelayAndLoad {
-        delay: quantity::delay_through(resistance, charge),
+        delay: job.driver_resistance(k) * charge,
         load: charge,
     }
 }
 
 // What stage s drives, where the load of the whole tree is known.
-pub fn stage_load(
-    job: &[u8],
-    counts: Counts,
-    sizing: &[u8],
-    tree: Capacitance,
-    s: usize,
-) -> Capacitance
-    requires ready { Ready counts job.now sizing.now }
-    requires tree_value { tree.0 ≡ branches_load (net_by counts job.now) sizing.now 0 }
-    requires s_lt_stages { s < counts.stages }
-    ensures { result.0 ≡ stage_load (net_by counts job.now) sizing.now s }
+pub fn stage_load(net: &SizedJob<'_>, tree: Capacitance, s: usize) -> Capacitance
+    requires tree_value { tree.0 ≡ branches_load (net_by net.now.job.counts net.now.job.bytes.now) net.now.sizing.now 0 }
+    requires s_lt_stages { s < net.now.job.counts.stages }
+    ensures { result.0 ≡ stage_load (net_by net.now.job.counts net.now.job.bytes.now) net.now.sizing.now s }
 {
-    if s + 1 == counts.stages {
+    if s + 1 == net.job.counts.stages {
         return tree;
     }
-    let size = job::index_at(sizing, s + 1);
-    job::gate(job, counts, size)
+    net.job.gate(usize::from(net.sizing[s + 1]))
 }
 
 // What stage s contributes to every sink, and what it charges.
-fn stage(job: &[u8], counts: Counts, sizing: &[u8], tree: Capacitance, s: usize) -> DelayAndLoad
-    requires ready { Ready counts job.now sizing.now }
-    requires tree_value { tree.0 ≡ branches_load (net_by counts job.now) sizing.now 0 }
-    requires s_lt_stages { s < counts.stages }
-    ensures { StageOf (net_by counts job.now) sizing.now s result }
+fn stage(net: &SizedJob<'_>, tree: Capacitance, s: usize) -> DelayAndLoad
+    requires tree_value { tree.0 ≡ branches_load (net_by net.now.job.counts net.now.job.bytes.now) net.now.sizing.now 0 }
+    requires s_lt_stages { s < net.now.job.counts.stages }
+    ensures { StageOf (net_by net.now.job.counts net.now.job.bytes.now) net.now.sizing.now s result }
 {
-    let size = job::index_at(sizing, s);
-    let driven = stage_load(job, counts, sizing, tree, s);
-    driver(job, counts, size, driven)
+    let driven = stage_load(net, tree, s);
+    driver(&net.job, usize::from(net.sizing[s]), driven)
 }
 
 // What all stages contribute to every sink, and what they charge, in one pass.
-pub fn stages(job: &[u8], counts: Counts, sizing: &[u8], tree: Capacitance) -> DelayAndLoad
-    requires ready { Ready counts job.now sizing.now }
-    requires tree_value { tree.0 ≡ branches_load (net_by counts job.now) sizing.now 0 }
-    ensures { StagesOf (net_by counts job.now) sizing.now result }
+pub fn stages(net: &SizedJob<'_>, tree: Capacitance) -> DelayAndLoad
+    requires { tree.0 ≡ branches_load (net_by net.now.job.counts net.now.job.bytes.now) net.now.sizing.now 0 }
+    ensures { StagesOf (net_by net.now.job.counts net.now.job.bytes.now) net.now.sizing.now result }
 {
     let mut delay = Delay(0);
-    let mut charged = Capacitance(0);
-    let mut s = 0;
-    while s < counts.stages {
-        let one = stage(job, counts, sizing, tree, s);
-        delay = quantity::add_delay(delay, one.delay);
-        charged = quantity::add_capacitance(charged, one.load);
-        s += 1;
+    let mut load = Capacitance(0);
+    for s in 0..net.job.counts.stages {
+        let one = stage(net, tree, s);
+        delay = delay + one.delay;
+        load = load + one.load;
     }
-    DelayAndLoad {
-        delay: delay,
-        load: charged,
-    }
+    DelayAndLoad { delay, load }
 }
