@@ -1,64 +1,59 @@
-// Text in a lent buffer: bytes and decimal numbers, put from a position on.
-// A function puts what the buffer reaches and answers the position behind all that it had to put, so a buffer of no bytes measures a text.
+// Text in a lent buffer: bytes and decimal numbers, put one behind the other.
+// What the buffer does not reach is not put but counted, so a buffer of no bytes measures a text.
 #![tactic(auto)]
 
-ghost use Rattle.std.specs.Prelude.{◌≡◌, ◌∷◌, [], ◌++◌, ◌+◌, ◌≤◌, ◌<◌, ◌^◌, length};
+ghost use Rattle.std.specs.Prelude.{◌∷◌, [], ◌++◌, ◌+◌, ◌≤◌, ◌<◌, ◌^◌, length};
 ghost use Rattle.text.specs.Spelling.{spelling};
-ghost use Rattle.text.specs.Writing.{Wrote};
+ghost use Rattle.text.specs.Writing.{Puts};
 
-// A byte as a number of eight bytes.
-pub fn widened(b: u8) -> u64
-    ensures { (result ≡ b) × (result < 256) }
-{
-    b as u64
+// A buffer, and the position behind all that was put into it.
+pub struct Text<'a> {
+    pub out: &'a mut [u8],
+    pub at: usize,
 }
 
-// Puts a byte.
-pub fn put_byte(out: &mut [u8], at: usize, byte: u8) -> usize
-    requires { at + 1 < 2 ^ 64 }
-    ensures { Wrote out.old at (byte ∷ []) out.new result }
-{
-    let next = at + 1;
-    if at < out.len() {
-        out[at] = byte;
+impl Text<'_> {
+    // Puts a byte.
+    pub fn put_byte(&mut self, byte: u8)
+        requires { self.old.at + 1 < 2 ^ 64 }
+        ensures { Puts self.old (byte ∷ []) self.new }
+    {
+        if self.at < self.out.len() {
+            self.out[self.at] = byte;
+        }
+        self.at += 1;
     }
-    next
-}
 
-// Puts bytes.
-pub fn put_bytes(out: &mut [u8], at: usize, bytes: &[u8]) -> usize
-    requires { at + length bytes.now < 2 ^ 64 }
-    ensures { Wrote out.old at bytes.now out.new result }
-{
-    let mut next = at;
-    let mut i = 0;
-    while i < bytes.len() {
-        next = put_byte(out, next, bytes[i]);
-        i += 1;
+    // Puts bytes.
+    pub fn put_bytes(&mut self, bytes: &[u8])
+        requires { self.old.at + length bytes.now < 2 ^ 64 }
+        ensures { Puts self.old bytes.now self.new }
+    {
+        for byte in bytes {
+            self.put_byte(*byte);
+        }
     }
-    next
-}
 
-// Puts a number's spelling, of at most 20 bytes.
-pub fn put_number(out: &mut [u8], at: usize, number: u64) -> usize
-    requires { at < 2 ^ 63 }
-    ensures wrote { Wrote out.old at (spelling number) out.new result }
-    ensures upper_bound { result ≤ at + 20 }
-{
-    let digit = (48 + number % 10) as u8;
-    if number < 10 {
-        return put_byte(out, at, digit);
+    // Puts a number's spelling, of at most 20 bytes.
+    pub fn put_number(&mut self, number: u64)
+        requires { self.old.at < 2 ^ 63 }
+        ensures puts { Puts self.old (spelling number) self.new }
+        ensures upper_bound { self.new.at ≤ self.old.at + 20 }
+    {
+        let more = number >= 10;
+        if more {
+            self.put_number(number / 10);
+        }
+        self.put_byte(b'0' + (number % 10) as u8);
     }
-    let next = put_number(out, at, number / 10);
-    put_byte(out, next, digit)
-}
 
-// Puts a number's spelling and a word behind it.
-pub fn put_number_then(out: &mut [u8], at: usize, number: u64, word: &[u8]) -> usize
-    requires { (at < 2 ^ 62) × (length word.now < 2 ^ 62) }
-    ensures wrote { Wrote out.old at (spelling number ++ word.now) out.new result }
-    ensures upper_bound { result ≤ at + 20 + length word.now }
-{
-    let next = put_number(out, at, number);
-    put_bytes(out, next, word)
+    // Puts a number's spelling and a word behind it.
+    pub fn put_number_then(&mut self, number: u64, word: &[u8])
+        requires { (self.old.at < 2 ^ 62) × (length word.now < 2 ^ 62) }
+        ensures puts { Puts self.old (spelling number ++ word.now) self.new }
+        ensures upper_bound { self.new.at ≤ self.old.at + 20 + length word.now }
+    {
+        self.put_number(number);
+        self.put_bytes(word);
+    }
 }

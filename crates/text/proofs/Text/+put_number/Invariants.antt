@@ -1,0 +1,5 @@
+-- `Text::put_number` meets its contract: all digits but the last, then the last. The number falls.
+use Rattle.text.proofs.Text.+put_number.Given as goal
+
+abbrev pub decreases-put_number : goal.decreases-put_number
+decreases-put_number l = l.number
