@@ -1,7 +1,7 @@
 // Why a call is refused: the question of a job, of a sizing or of a place whose answer is no. C is told its number.
 #![tactic(auto)]
 
-ghost use Rattle.std.specs.Prelude.{◌≡◌, cond};
+ghost use Rattle.std.specs.Prelude.{◌≡◌, ◌≤◌, cond};
 ghost use Rattle.refusal.specs.Numbers.{number_of, refusal_number};
 
 // The questions of a job, of a sizing and of a place, each by what it asks, with its number.
@@ -29,9 +29,10 @@ pub enum Refusal {
 }
 
 impl Refusal {
-    // The number of the question.
+    // The number of the question, which is never the 0 of an answer.
     pub fn number(self) -> usize
-        ensures { result ≡ number_of self }
+        ensures number { result ≡ number_of self }
+        ensures above_zero { 1 ≤ result }
     {
         self as usize
     }
