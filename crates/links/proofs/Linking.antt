@@ -1,14 +1,16 @@
 -- The filling of the links, step by step.
 use mathlib.Core.Path.{◌≡◌, refl, sym, ap, ◌∙◌}
 use mathlib.Core.Logic.{◌⊎◌, inl, inr}
-use mathlib.Core.Bool.{Bool, true, false}
+use mathlib.Core.Bool.{true, false}
 use mathlib.Core.List.{List}
 use Prim.Native.Nat.{ℕ, suc, ◌+◌, ◌≤◌, ◌<◌}
-use native.Mathlib.Nat.{eq-or-lt_of_le}
+use native.Mathlib.Nat.{add_assoc, eq-or-lt_of_le}
+use native.Mathlib.Decide.{ℕ_discrete}
 use native.Mathlib.Omega.{arith}
-use borrow.Author.Tests.{eqb-true, eqb-false, lt-leb}
-use lib.Dec.{leb, eqb, le→leb}
-use lib.ListN.{length, get_or, set, length-set}
+use borrow.Author.Tests.{lt-leb}
+use lib.Dec.{leb, le→leb}
+use lib.ListN.{length, get_or, set, replicate, length-set}
+use Rattle.std.proofs.lemmas.List.{get_or-replicate}
 use lib.Seq.{get_or-set_same, get_or-set_other}
 use Rattle.lattice.proofs.ListLaws.{is_true, at_every}
 use Rattle.lattice.proofs.Every.{every-fails}
@@ -16,7 +18,10 @@ use Rattle.net.specs.declared.Counts.{Counts}
 use Rattle.net.specs.Job.{segment_parent}
 use Rattle.net.specs.Net.{Net, net_by}
 use Rattle.net.specs.Questions.{question9}
-use Rattle.links.specs.Links.{First, Unlinked, Linked}
+use Rattle.job.specs.declared.runs.Run.{Run}
+use Rattle.job.specs.Runs.{byte_of}
+use Rattle.job.specs.RunOf.{RunOf}
+use Rattle.links.specs.Links.{First, Linked}
 
 -- what the filling of the links knows when the segments from j on are linked: each of them hangs at a node that stands before it
 pub record Linking (net : Net) (first next : List ℕ) (j : ℕ) : Type 0 where
@@ -26,32 +31,15 @@ pub record Linking (net : Net) (first next : List ℕ) (j : ℕ) : Type 0 where
   pub firsts : (q : ℕ) → q ≤ net.segments → First net q j (get_or first q 0)
   pub nexts : (i : ℕ) → j ≤ i → i < net.segments → First net (net.parent i) (suc i) (get_or next i 0)
 
-dec_eq : (a b : ℕ) → Dec (a ≡ b)
-dec_eq a b = go (eqb a b) refl
-  where
-    go : (t : Bool) → eqb a b ≡ t → Dec (a ≡ b)
-    go true e = yes (eqb-true a b e)
-    go false e = no (eqb-false a b e)
-
-pub unlinked-start : (n : ℕ) (first : List ℕ) → Unlinked n (length first) first 0
-unlinked-start n first = record { same = refl; none = λ k h. absurd (omega arith) }
-
-pub unlinked-step : (n long : ℕ) (first : List ℕ) (q : ℕ) → q < length first → Unlinked n long first q → Unlinked n long (set first q n) (q + 1)
-unlinked-step n long first q h u = record { same = length-set first q n ∙ u.same; none = λ k l. go k (dec_eq k q) (omega arith) }
-  where
-    go : (k : ℕ) → Dec (k ≡ q) → k ≤ q → get_or (set first q n) k 0 ≡ n
-    go k (yes e) l = rw e (get_or-set_same first q n 0 h)
-    go k (no e) l = get_or-set_other first q k n 0 e ∙ u.none k (omega arith)
-
 module _ (net : Net) where
-  pub linking-start : (long : ℕ) (first next : List ℕ) → net.segments < long → net.segments ≤ length next → Unlinked net.segments long first (net.segments + 1)
-      → Linking net first next net.segments
-  linking-start long first next h k u =
+  -- before any segment is linked, each node has the one past the last
+  pub linking-start : {next : List ℕ} → net.segments ≤ 64 → length next ≡ 64 → Linking net (replicate 65 net.segments) next net.segments
+  linking-start h e =
       record {
         nodes = omega arith;
-        segments = k;
+        segments = omega arith;
         falls = λ i l m. absurd (omega arith);
-        firsts = λ q l. rw (u.none q (omega arith)) record {
+        firsts = λ q l. rw (get_or-replicate 65 q net.segments 0 (omega arith)) record {
           from = omega arith;
           within = omega arith;
           none = λ i m n. absurd (omega arith);
@@ -68,7 +56,7 @@ module _ (net : Net) where
         nodes = rw (length-set first (net.parent i) i) l.nodes;
         segments = rw (length-set next i (get_or first (net.parent i) 0)) l.segments;
         falls = λ k m n. before k n (eq-or-lt_of_le m);
-        firsts = λ q k. node q k (dec_eq q (net.parent i));
+        firsts = λ q k. node q k (ℕ_discrete q (net.parent i));
         nexts = λ k m n. sibling k n (eq-or-lt_of_le m);
       }
     where
@@ -97,6 +85,10 @@ module _ (net : Net) where
 
   pub linking-end : (first next : List ℕ) → Linking net first next 0 → Linked net first next
   linking-end first next l = record { nodes = l.nodes; segments = l.segments; firsts = l.firsts; nexts = λ i h. l.nexts i (omega arith) h }
+
+-- The parent of a segment, read from the run of the segments.
+pub parent-read : (c : Counts) (b : List ℕ) {r : Run} (i q : ℕ) → RunOf b (c.widths + c.sizes + c.stages) c.segments r → q ≡ byte_of r.bytes.now r.start 2 i → q ≡ (net_by c b).parent i
+parent-read c b {r} i q o e = rw (o.bytes, o.start, add_assoc (c.widths + c.sizes) c.stages i) at e
 
 -- Question 9 of the net of a job, by how the loop ends: at a segment that hangs behind itself, or after all segments.
 module _ (c : Counts) (b : List ℕ) where

@@ -1,6 +1,5 @@
 -- `links::link` meets its contract; the loop's invariant is that the segments from j on are in order and linked.
 use mathlib.Core.Path.{◌≡◌}
-use Prim.Native.Nat.{◌≤◌}
 use lib.ListN.{length}
 use Rattle.net.specs.Net.{net_by}
 use Rattle.links.proofs.Linking.{Linking}
@@ -8,7 +7,4 @@ use Rattle.links.proofs.link.Given as goal
 
 abbrev pub invariant-loop-j : goal.invariant-loop-j
 invariant-loop-j l =
-    (length l.first ≡ length l.initial.first) × (length l.next ≡ length l.initial.next) × (l.j ≤ l.counts.segments) × Linking (net_by l.counts l.job) l.first l.next l.j
-
-abbrev pub decreases-loop-j : goal.decreases-loop-j
-decreases-loop-j l = l.j
+    (length l.links.next ≡ 64) × Linking (net_by l.records.counts l.records.bytes.now) l.links.first l.links.next l.j
