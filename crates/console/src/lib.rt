@@ -3,35 +3,37 @@
 #![tactic(auto)]
 
 ghost use Rattle.std.specs.Prelude.{◌≤◌, length};
-ghost use Rattle.console.specs.Read.{GaveInto, ReadInto};
+ghost use Rattle.std.specs.Io.{ReadsAtMost};
+ghost use Rattle.console.specs.Read.{GaveInto};
 
 use std::io;
 use std::io::{Read, Write};
 
-// The input of a program: all of it, or as much as the buffer holds; or a read failed, so that what came may be cut off anywhere.
-#[derive(Clone, Copy)]
-pub enum Input {
-    Whole(usize),
-    Failed,
-}
+// A read of standard input failed, and was told: what came may be cut off anywhere.
+#[derive(Clone, Copy, PartialEq, Eq, Debug)]
+pub struct ReadFailed;
 
-// Reads standard input to its end, or until the buffer is full. A read that fails is told.
-pub fn read_input<R: Read, E: Write>(stdin: &mut R, stderr: &mut E, input: &mut [u8]) -> Input
-    ensures counted { ReadInto input.new result }
+// Reads standard input to its end, or until the buffer is full, and answers how many bytes came. A read that fails is told.
+pub fn read_input<R: Read, E: Write>(
+    stdin: &mut R,
+    stderr: &mut E,
+    input: &mut [u8],
+) -> Result<usize, ReadFailed>
+    ensures counted { ReadsAtMost result input.new }
     ensures bytes { GaveInto (R.remaining stdin.old) (R.remaining stdin.new) input.new result }
 {
     let mut done: usize = 0;
     while done < input.len() {
         match stdin.read(&mut input[done..]) {
-            Ok(0) => return Input::Whole(done),
+            Ok(0) => return Ok(done),
             Ok(more) => done += more,
             Err(error) => {
                 input_failed(stderr, error);
-                return Input::Failed;
+                return Err(ReadFailed);
             }
         }
     }
-    Input::Whole(done)
+    Ok(done)
 }
 
 // Tells that standard input could not be read, with the system's reason.

@@ -39,7 +39,7 @@ fn input_in_parts_is_read_to_its_end(rt: HostRuntime) -> Result<(), Fail> {
     let mut input = [0u8; 8];
     let mut stdin = b"ab".as_slice().chain(b"cde".as_slice());
     let read = read_input(&mut stdin, &mut stderr, &mut input);
-    assert!(rt; matches!(read, Input::Whole(5)));
+    assert!(rt; matches!(read, Ok(5)));
     assert_eq!(rt; input, *b"abcde\0\0\0");
     assert!(rt; stderr.is_empty());
     Ok(())
@@ -51,7 +51,7 @@ fn a_full_buffer_ends_the_reading(rt: HostRuntime) -> Result<(), Fail> {
     let mut input = [0u8; 3];
     let mut stdin = b"abc".as_slice().chain(Reset);
     let read = read_input(&mut stdin, &mut stderr, &mut input);
-    assert!(rt; matches!(read, Input::Whole(3)));
+    assert!(rt; matches!(read, Ok(3)));
     assert_eq!(rt; input, *b"abc");
     assert!(rt; stderr.is_empty());
     Ok(())
@@ -63,7 +63,7 @@ fn a_read_that_fails_in_mid_stream_is_told(rt: HostRuntime) -> Result<(), Fail> 
     let mut input = [0u8; 8];
     let mut stdin = b"abc".as_slice().chain(Reset);
     let read = read_input(&mut stdin, &mut stderr, &mut input);
-    assert!(rt; matches!(read, Input::Failed));
+    assert!(rt; matches!(read, Err(ReadFailed)));
     assert_eq!(rt;
         stderr.as_slice(),
         b"standard input: Connection reset by peer\n".as_slice()
