@@ -1,12 +1,12 @@
 -- A loop over a run of bytes that compares each with the one before it, the first with a least value: where it gets through, the bytes fall
 -- nowhere, and none is below the least value or above the last.
 use mathlib.Core.Path.{◌≡◌, refl}
-use mathlib.Core.Bool.{Bool, true, false, not, ◌&&◌, and-false}
+use mathlib.Core.Bool.{Bool, false, ◌&&◌, and-false}
 use Prim.Native.Nat.{ℕ, zero, suc, ◌+◌, ◌-◌, ◌≤◌, ◌<◌}
 use native.Mathlib.Numerals.{add-one}
 use native.Mathlib.Decide.{dec_le}
 use native.Mathlib.Omega.{arith}
-use borrow.Author.Tests.{leb-true, leb-false, not-true, not-false, le-leb, lt-leb}
+use borrow.Author.Tests.{le-leb, lt-leb}
 use lib.Dec.{leb, le→leb}
 use Rattle.lattice.specs.Lists.{every}
 use Rattle.lattice.proofs.ListLaws.{is_true, T_and, at_every}
@@ -31,12 +31,12 @@ module _ {f : ℕ → ℕ} {least : ℕ} where
 
   module _ {k before : ℕ} (i : Climbed f least k before) where
     -- v is number k, and does not fall
-    pub climbs-on : {v : ℕ} → v ≡ f k → not (leb before v) ≡ false → Climbed f least (k + 1) v
+    pub climbs-on : {v : ℕ} → v ≡ f k → before ≤ v → Climbed f least (k + 1) v
     climbs-on {v} e t = rw (add-one k) record { last = e; rises = λ j l. go j l (dec_le (suc j) k) }
       where
         go : (j : ℕ) → j < suc k → Dec (j < k) → compared f least j ≤ f j
         go j l (yes m) = i.rises j m
-        go j l (no m) = let d : j ≡ k = omega arith in rw d (omega (arith, i.last, e, leb-true before v (not-false _ t)))
+        go j l (no m) = let d : j ≡ k = omega arith in rw d (omega (arith, i.last, e, t))
 
 -- What such a loop tests, of n numbers.
 module _ (f : ℕ → ℕ) (n least most : ℕ) where
@@ -52,8 +52,8 @@ module _ (f : ℕ → ℕ) (n least most : ℕ) where
       rw (every-fails (n - 1) (λ j. leb (f j) (f (j + 1))) k (omega arith) (rw (add-one k) (lt-leb (f k) (f (suc k)) l)), and-false in_bounds)
 
   -- v is number k, and falls
-  pub falls-here : {k before v : ℕ} → Climbed f least k before → k < n → v ≡ f k → not (leb before v) ≡ true → false ≡ in_bounds && in_order
-  falls-here {k} {before} {v} i h e t = falls k h (omega (arith, i.last, e, leb-false before v (not-true _ t)))
+  pub falls-here : {k before v : ℕ} → Climbed f least k before → k < n → v ≡ f k → v < before → false ≡ in_bounds && in_order
+  falls-here {k} {before} {v} i h e t = falls k h (omega (arith, i.last, e, t))
 
   pub climbs-all : {before : ℕ} → Climbed f least n before → least ≤ most → leb before most ≡ in_bounds && in_order
   climbs-all {before} i o = go (dec_le before most)

@@ -6,9 +6,9 @@ use Rattle.net.specs.Questions.{in_range}
 use Rattle.job.specs.Runs.{byte_of, word_of}
 
 module _ (b : List ℕ) where
-  -- Is the byte at `at` of record r at most that of the next?
-  abbrev pub byte_in_order : ℕ → ℕ → Bool
-  byte_in_order at r = leb (byte_of b 0 at r) (byte_of b 0 at (r + 1))
+  -- Is the byte at `at` of record k at most that of the next?
+  abbrev pub byte_in_order : ℕ → ℕ → ℕ → Bool
+  byte_in_order start at k = leb (byte_of b start at k) (byte_of b start at (k + 1))
 
   -- Is the number of a record its place in the run?
   abbrev pub number_in_order : ℕ → ℕ → Bool

@@ -1,22 +1,75 @@
-// Tests of each record of a run: `count` records from the record `start` on. A test that fails ends its loop.
+// Tests of each record of a run. A test that fails ends its loop.
 #![tactic(auto)]
 
-ghost use Rattle.std.specs.Prelude.{◌≡◌, ◌&&◌, ◌+◌, ◌*◌, ◌-◌, ◌<◌, ◌≤◌, length};
+ghost use Rattle.std.specs.Prelude.{◌≡◌, ◌&&◌, ◌+◌, ◌*◌, ◌-◌, ◌<◌, ◌≤◌, length, List, ℕ};
 ghost use Rattle.lattice.specs.Lists.{every};
-ghost use Rattle.job.specs.Runs.{HasRun};
-ghost use Rattle.runs.specs.Records.{byte_in_order, number_in_order, zero_from, zero_bytes, byte_within, word_within, rows_in_order, range_within};
+ghost use Rattle.net.specs.Questions.{in_range};
+ghost use Rattle.job.specs.Runs.{byte_of, word_of};
+ghost use Rattle.runs.specs.Records.{byte_in_order, number_in_order, zero_from, zero_bytes, byte_within, rows_in_order, range_within};
 
-// Is the byte at `at` of each of the first n records from `least` to `most`, and does it fall nowhere from one to the next? Where it falls nowhere,
-// the first tells that none is below `least`, and the last that none is above `most`.
-pub fn bytes_in_order(job: &[u8], n: usize, at: usize, least: usize, most: usize) -> bool
-    requires { HasRun job.now 0 n × (at < 16) × (least ≤ most) }
-    ensures { result ≡ every n (byte_within job.now 0 at least most) && every (n - 1) (byte_in_order job.now at) }
+use job::Run;
+
+// Where in a record a field stands, and how it is read.
+pub trait Field: Copy {
+    ghost inside: { Self → Type 0 };
+
+    ghost value: { Self → List ℕ → ℕ → ℕ → ℕ };
+
+    // The field of the run's record k.
+    fn read(self, run: &Run<'_>, k: usize) -> usize
+        requires { (k < run.now.count) × inside self }
+        ensures { result ≡ value self run.now.bytes.now run.now.start k };
+}
+
+// The byte at an offset.
+#[derive(Clone, Copy)]
+pub struct Byte(pub usize);
+
+// The word at an offset.
+#[derive(Clone, Copy)]
+pub struct Word(pub usize);
+
+impl Field for Byte {
+    ghost inside = { λ f. f.0 < 16 };
+
+    ghost value = { λ f b start k. byte_of b start f.0 k };
+
+    fn read(self, run: &Run<'_>, k: usize) -> usize {
+        run.byte(k, self.0)
+    }
+}
+
+impl Field for Word {
+    ghost inside = { λ f. f.0 ≤ 12 };
+
+    ghost value = { λ f b start k. word_of b start f.0 k };
+
+    fn read(self, run: &Run<'_>, k: usize) -> usize {
+        run.word(k, self.0)
+    }
+}
+
+// Is a field of each record from least to most?
+pub fn within<F: Field>(run: &Run<'_>, field: F, least: usize, most: usize) -> bool
+    requires { F.inside field }
+    ensures { result ≡ every run.now.count (λ k. in_range least most (F.value field run.now.bytes.now run.now.start k)) }
+{
+    (0..run.count).all(|k| {
+        let value = field.read(run, k);
+        (least <= value) & (value <= most)
+    })
+}
+
+// Is the byte at `at` of each record from `least` to `most`, and does it fall nowhere from one to the next? Where it falls nowhere, the first tells
+// that none is below `least`, and the last that none is above `most`.
+pub fn bytes_in_order(run: &Run<'_>, at: usize, least: usize, most: usize) -> bool
+    requires { (at < 16) × (least ≤ most) }
+    ensures { result ≡ every run.now.count (byte_within run.now.bytes.now run.now.start at least most) && every (run.now.count - 1) (byte_in_order run.now.bytes.now run.now.start at) }
 {
     let mut before = least;
-    for k in 0..n {
-        let byte = job::byte_of(job, 0, at, k);
-        let passed = before <= byte;
-        if !passed {
+    for k in 0..run.count {
+        let byte = run.byte(k, at);
+        if byte < before {
             return false;
         }
         before = byte;
@@ -24,127 +77,49 @@ pub fn bytes_in_order(job: &[u8], n: usize, at: usize, least: usize, most: usize
     before <= most
 }
 
-// Do the numbers of a run of records count from 0?
-pub fn numbers_in_order(job: &[u8], start: usize, count: usize) -> bool
-    requires { HasRun job.now start count }
-    ensures { result ≡ every count (number_in_order job.now start) }
+// Do the numbers of the records count from 0?
+pub fn numbers_in_order(run: &Run<'_>) -> bool
+    ensures { result ≡ every run.now.count (number_in_order run.now.bytes.now run.now.start) }
 {
-    for k in 0..count {
-        let number = job::byte_of(job, start, 1, k);
-        let passed = number == k;
-        if !passed {
-            return false;
-        }
-    }
-    true
+    (0..run.count).all(|k| run.byte(k, 1) == k)
 }
 
 // Are the n bytes from p on zero?
-fn zero_from(job: &[u8], p: usize, n: usize) -> bool
-    requires { p + n ≤ length job.now }
-    ensures { result ≡ zero_from job.now p n }
+fn zero_from(bytes: &[u8], p: usize, n: usize) -> bool
+    requires { p + n ≤ length bytes.now }
+    ensures { result ≡ zero_from bytes.now p n }
 {
-    for k in 0..n {
-        let byte = job::index_at(job, p + k);
-        let passed = byte == 0;
-        if !passed {
-            return false;
-        }
-    }
-    true
+    bytes[p..p + n].iter().all(|byte| *byte == 0)
 }
 
-// Are n bytes from `at` on zero in each record of a run?
-pub fn bytes_zero(job: &[u8], start: usize, count: usize, at: usize, n: usize) -> bool
-    requires { HasRun job.now start count × (at + n ≤ 16) }
-    ensures { result ≡ every count (zero_bytes job.now start at n) }
+// Are n bytes from `at` on zero in each record?
+pub fn bytes_zero(run: &Run<'_>, at: usize, n: usize) -> bool
+    requires { at + n ≤ 16 }
+    ensures { result ≡ every run.now.count (zero_bytes run.now.bytes.now run.now.start at n) }
 {
-    for k in 0..count {
-        let passed = zero_from(job, 16 * (start + k) + at, n);
-        if !passed {
-            return false;
-        }
-    }
-    true
-}
-
-// Is the byte at `at` from least to most in each record of a run?
-pub fn bytes_within(
-    job: &[u8],
-    start: usize,
-    count: usize,
-    at: usize,
-    least: usize,
-    most: usize,
-) -> bool
-    requires { HasRun job.now start count × (at < 16) }
-    ensures { result ≡ every count (byte_within job.now start at least most) }
-{
-    for k in 0..count {
-        let v = job::byte_of(job, start, at, k);
-        let passed = (least <= v) & (v <= most);
-        if !passed {
-            return false;
-        }
-    }
-    true
-}
-
-// Is the word at `at` from least to most in each record of a run?
-pub fn words_within(
-    job: &[u8],
-    start: usize,
-    count: usize,
-    at: usize,
-    least: usize,
-    most: usize,
-) -> bool
-    requires { HasRun job.now start count × (at ≤ 12) }
-    ensures { result ≡ every count (word_within job.now start at least most) }
-{
-    for k in 0..count {
-        let v = job::word_of(job, start, at, k);
-        let passed = (least <= v) & (v <= most);
-        if !passed {
-            return false;
-        }
-    }
-    true
+    (0..run.count).all(|k| zero_from(run.bytes, 16 * (run.start + k) + at, n))
 }
 
 // Does resistance strictly fall and capacitance strictly rise along a table? Widths and driver sizes have them at the same offsets: a driver size
 // has its gate's.
-pub fn table_in_order(job: &[u8], start: usize, count: usize) -> bool
-    requires { HasRun job.now start count }
-    ensures { result ≡ every (count - 1) (rows_in_order job.now start) }
+pub fn table_in_order(run: &Run<'_>) -> bool
+    ensures { result ≡ every (run.now.count - 1) (rows_in_order run.now.bytes.now run.now.start) }
 {
-    let mut k = 0;
-    while k + 1 < count {
-        let resistance = job::word_of(job, start, 4, k);
-        let capacitance = job::word_of(job, start, 8, k);
-        let next_resistance = job::word_of(job, start, 4, k + 1);
-        let next_capacitance = job::word_of(job, start, 8, k + 1);
-        let passed = (next_resistance < resistance) & (capacitance < next_capacitance);
-        if !passed {
-            return false;
-        }
-        k += 1;
-    }
-    true
+    (0..run.count.saturating_sub(1)).all(|k| {
+        let falls = run.word(k + 1, 4) < run.word(k, 4);
+        let rises = run.word(k, 8) < run.word(k + 1, 8);
+        falls & rises
+    })
 }
 
-// Is the byte at `at` at most the next one, and that one below n, in each record of a run?
-pub fn ranges_within(job: &[u8], start: usize, count: usize, at: usize, n: usize) -> bool
-    requires { HasRun job.now start count × (at < 15) }
-    ensures { result ≡ every count (range_within job.now start at n) }
+// Is the byte at `at` at most the next one, and that one below n, in each record?
+pub fn ranges_within(run: &Run<'_>, at: usize, n: usize) -> bool
+    requires { at < 15 }
+    ensures { result ≡ every run.now.count (range_within run.now.bytes.now run.now.start at n) }
 {
-    for k in 0..count {
-        let lowest = job::byte_of(job, start, at, k);
-        let highest = job::byte_of(job, start, at + 1, k);
-        let passed = (lowest <= highest) & (highest < n);
-        if !passed {
-            return false;
-        }
-    }
-    true
+    (0..run.count).all(|k| {
+        let lowest = run.byte(k, at);
+        let highest = run.byte(k, at + 1);
+        (lowest <= highest) & (highest < n)
+    })
 }
