@@ -25,15 +25,15 @@ module _ (b₀ : List ℕ) (n : ℕ) (lower upper lean wide : ℕ → ℕ) where
   placing-start = record { up_to = omega arith; long = refl; left = rw (sub-zero n) }
 
   module _ (b : List ℕ) (p : ℕ) (i : Placing b₀ n lower upper lean wide b p) where
-    pub placing-step : (r : ℕ) (b' : List ℕ) → p < n → little_endian 8 r ≡ place_bytes (lower p) (upper p) (lean p) (wide p)
-        → b' ≡ sets b (8 * (1 + p)) (little_endian 8 r) → Placing b₀ n lower upper lean wide b' (p + 1)
+    pub placing-step : (r b' : List ℕ) → p < n → r ≡ place_bytes (lower p) (upper p) (lean p) (wide p)
+        → b' ≡ sets b (8 * (1 + p)) r → Placing b₀ n lower upper lean wide b' (p + 1)
     unfolding places_bytes from flat_map
     placing-step r b' h e f =
         let more : n - p ≡ suc (n - suc p) = omega arith in
         let next : 8 * (1 + (p + 1)) ≡ 8 * (1 + p) + 8 = omega arith in
         record {
           up_to = omega arith;
-          long = ap length f ∙ length-sets b (8 * (1 + p)) (little_endian 8 r) ∙ i.long;
+          long = ap length f ∙ length-sets b (8 * (1 + p)) r ∙ i.long;
           left =
               rw (next, f, e, add-one p)
               (sym (sets-append (place_bytes (lower p) (upper p) (lean p) (wide p)) (places_bytes (suc p) (n - suc p) lower upper lean wide) b (8 * (1 + p)))

@@ -1,17 +1,18 @@
--- `reply::put` meets its contract: the loop has i of the eight bytes written.
+-- The eight bytes stand one behind the other.
+use mathlib.Core.Path.{◌≡◌, sym, ap, ◌∙◌}
+use mathlib.Core.List.{List, ◌++◌, append_assoc}
+use Prim.Native.Nat.{ℕ, ◌+◌, ◌≤◌}
 use native.Mathlib.Omega.{arith}
-use Rattle.reply.proofs.Numbers.{putting-start, putting-step, putting-end}
+use lib.ListN.{length, take, drop}
+use lib.Seq.{sets, sets-eq}
+use Rattle.std.proofs.lemmas.List.{length-take, length-drop, drop-drop}
 use Rattle.reply.proofs.put.Goals as goal
 
-pub loop-i-init : goal.loop-i-init
-loop-i-init c = putting-start _ _ _
-
-pub loop-i-preserved : goal.loop-i-preserved
-loop-i-preserved c =
-    let l = c.loop-i in
-    putting-step _ _ _ l.buffer l.rest l.i l.invariant (omega arith)
+overwritten : (b v w : List ℕ) (start n : ℕ) → w ≡ v → n ≡ length v → start + length v ≤ length b → take start b ++ (w ++ drop n (drop start b)) ≡ sets b start v
+overwritten b v w start n e f h = rw (e, f, drop-drop, ← append_assoc) (sym (sets-eq v b start h))
 
 pub returns : goal.returns
 returns c =
-    let l = c.loop-i in
-    putting-end _ _ _ l.buffer l.rest l.i l.invariant (omega arith)
+    let p = c.copy_from_slice.ensures in
+    let n : length c.args.bytes ≡ 8 = sym (ap length p.after) ∙ p.len ∙ simp (length-take, length-drop) (omega arith) in
+    overwritten _ _ _ _ _ p.after (omega arith) (omega arith)
