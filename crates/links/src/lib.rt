@@ -14,6 +14,16 @@ pub struct Links {
     pub next: [usize; 64],
 }
 
+impl Links {
+    // Tables for `link` to fill.
+    pub fn new() -> Links {
+        Links {
+            first: [0; 65],
+            next: [0; 64],
+        }
+    }
+}
+
 // Finds the links of a job: from the last segment down, each goes before the first at its node. Each parent is read here, so question 9 is asked here
 // too: a parent byte above the segment's own number ends the loop, and what the tables hold then says nothing.
 pub fn link(records: &Records<'_>, links: &mut Links) -> bool

@@ -1,54 +1,18 @@
 -- Loading the weights: which weight records are accepted, and what one more record makes of the table.
-use Rattle.std.proofs.Common.{◌≡◌, ℕ, zero, suc, ◌<◌, ◌≤◌, Bool, true, false, cond, not, ◌&&◌, ◌||◌, eqb, ◌⊎◌, List, set, sym, refl, ap, ◌∙◌, subst, inl, inr, true≢false, arith, length-set, get_or-set_other, get_or-set_same, eq-eqb, ne_eqb}
+use Rattle.std.proofs.Common.{◌≡◌, ℕ, suc, ◌<◌, ◌≤◌, Bool, true, false, cond, ◌&&◌, ◌||◌, eqb, ◌⊎◌, List, set, sym, ap, ◌∙◌, inl, inr, arith, length-set, get_or-set_other, get_or-set_same, eq-eqb, ne_eqb}
 use native.Mathlib.Decide.{ℕ_discrete}
-use borrow.Author.Tests.{not-false, not-true}
-use lib.Ieee.{Float, nan, inf, fin, binary64, is_nan, nan_bits}
-use lib.Ieee.Bits.{nan_bits_is}
+use lib.Ieee.{Float}
 use Rattle.lattice.specs.Lists.{at, every, some}
 use Rattle.net.specs.declared.Counts.{Counts}
-use Rattle.net.specs.Job.{weight_records, segment_weight, weight_segment, weight_form, weight_whole, weight_bits}
+use Rattle.net.specs.Job.{weight_records, segment_weight, weight_segment, weight_form, weight_whole}
 use Rattle.net.specs.Weights.{last_at, counts_as, fraction_count, fraction, weight_count, weighs, sink_weight}
 use Rattle.net.specs.Questions.{question21}
 use Rattle.net.specs.Checked.{WeightFits, SinkWeights}
-use Rattle.sinks.specs.declared.Weight.{Weight}
-use Rattle.sinks.specs.declared.Counted.{Counted}
-use Rattle.sinks.specs.Told.{CountOf, WeightOf}
 use Rattle.sinks.specs.Loaded.{accepted, LoadedTo}
 
--- What is said of a weight, or of a count, is said of the one that it is.
-pub told-weight : (c : Counts) (b : List ℕ) (w : ℕ) {r s : Weight} → WeightOf c b w r → r ≡ s → WeightOf c b w s
-told-weight c b w h e = subst (WeightOf c b w) e h
-
-pub told-count : (x : Float) {r s : Counted} → CountOf x r → r ≡ s → CountOf x s
-told-count x h e = subst (CountOf x) e h
-
--- What is no number counts as nothing.
-none-counts : (n : ℕ) (x : Float) → is_nan x ≡ true → some n (counts_as x) ≡ false
-unfolding some counts_as is_nan
-none-counts zero x e = refl
-none-counts (suc n) nan e = none-counts n nan e
-none-counts (suc n) (inf s) e = absurd (true≢false (sym e))
-none-counts (suc n) (fin s m d) e = absurd (true≢false (sym e))
-
 module _ (c : Counts) (b : List ℕ) (w : ℕ) where
-  -- Is record w of another form than 2, or are its bits those of a number?
-  abbrev numbered : Bool
-  numbered = not (eqb (weight_form c b w) 2) || not (nan_bits binary64 (weight_bits c b w))
-
-  pub number-known : {r : Bool} → r ≡ numbered → not r ≡ false → weight_form c b w ≡ 2 → nan_bits binary64 (weight_bits c b w) ≡ false
-  number-known {r} e t f = let g : numbered ≡ true = sym e ∙ not-false r t in not-true (nan_bits binary64 (weight_bits c b w)) (rw f at g)
-
   accepted-form : weight_form c b w ≡ 2 → accepted c b w ≡ some 256 (counts_as (fraction c b w))
   accepted-form f = rw f
-
-  pub no_number : {r : Bool} → r ≡ numbered → not r ≡ true → false ≡ accepted c b w
-  no_number {r} e t = go (ℕ_discrete (weight_form c b w) 2) (sym e ∙ not-true r t)
-    where
-      go : Dec (weight_form c b w ≡ 2) → numbered ≡ false → false ≡ accepted c b w
-      go (no m) g = absurd (true≢false (rw (ne_eqb (weight_form c b w) 2 m) at g))
-      go (yes f) g =
-          let z : nan_bits binary64 (weight_bits c b w) ≡ true = not-false (nan_bits binary64 (weight_bits c b w)) (rw f at g) in
-          sym (accepted-form f ∙ none-counts 256 (fraction c b w) (sym (nan_bits_is binary64 (weight_bits c b w)) ∙ z))
 
   -- A record of another form is accepted, one of form 2 where its fraction counts.
   pub other-accepted : (weight_form c b w ≡ 2 → ⊥) → true ≡ accepted c b w

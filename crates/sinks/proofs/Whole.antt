@@ -1,8 +1,8 @@
 -- A float that is a whole number: when it equals that number as a float, the tests that it passes below 256, and its whole part.
-use Rattle.std.proofs.Common.{◌≡◌, ℕ, ◌+◌, ◌*◌, ◌/◌, ◌^◌, ◌<◌, Bool, true, false, not, ◌&&◌, ◌||◌, T, eqb, ltb, pos, sym, refl, ap, ◌∙◌, subst, true≢false, le_trans, le_of_lt, mul-le-mul_right, div-lt_iff_lt-mul, zero-mul, mul-one, mul_right_comm, mul-div_cancel, arith, lit<, lit≤, eqb→eq, ltb→lt, lt→ltb}
+use Rattle.std.proofs.Common.{◌≡◌, ℕ, ◌*◌, ◌/◌, ◌<◌, Bool, true, false, not, ◌&&◌, ◌||◌, T, eqb, pos, sym, refl, ap, ◌∙◌, subst, true≢false, le_trans, le_of_lt, zero-mul, mul-one, mul_right_comm, mul-div_cancel, arith, lit≤, eqb→eq}
 use mathlib.Core.Bool.{beq, false≢true}
 use native.Mathlib.Nat.{eq_of_mul-eq-mul_right}
-use lib.Ieee.{Float, nan, inf, fin, binary64, up, down, of_int, to_unsigned, eq, lt}
+use lib.Ieee.{Float, nan, inf, fin, binary64, up, down, of_int, to_unsigned, eq}
 use lib.Ieee.Exact.{HasValue}
 use lib.Ieee.Back.{round_whole}
 use lib.Ieee.Fits.{and_l, and_r, and_i, eq→eqb, down_pos}
@@ -90,39 +90,12 @@ equal-says x k h q = level-says x (of_int binary64 (pos k)) k (whole-value k h) 
 pub equal-holds : (x : Float) (k : ℕ) → k < 256 → IsWhole x k → eq x (of_int binary64 (pos k)) ≡ true
 equal-holds x k h w = level_holds x (of_int binary64 (pos k)) k (whole-value k h) w
 
--- What is below 256 can have its whole part taken, and that part is below 256.
-pub below-256 : (x : Float) → lt x (fin false 1 (pos 8)) ≡ true → T (lt x (fin false 1 (pos 64))) × (to_unsigned 64 x < 256)
-unfolding lt to_unsigned
-below-256 nan q = absurd (false≢true q)
-below-256 (inf true) q = (tt, lit< tt)
-below-256 (inf false) q = absurd (false≢true q)
-below-256 (fin true m e) q = let p = down_pos e in (lt→ltb 0 (m * up e * 1 + 1 * 2 ^ 64 * down e) (omega arith), lit< tt)
-below-256 (fin false m e) q =
-    let p = down_pos e in
-    let l : m * up e * 1 < 256 * down e = ltb→lt (m * up e * 1) (256 * down e) (holds q) in
-    let d : m * up e / down e < 256 = (div-lt_iff_lt-mul p).1 (omega arith) in
-    (lt→ltb (m * up e * 1) (1 * 2 ^ 64 * down e) (omega arith), omega arith)
-
--- A number that is the whole part of what is below 256 is below 256.
-pub part_small : {r : ℕ} (x : Float) → r ≡ to_unsigned 64 x → lt x (fin false 1 (pos 8)) ≡ true → r < 256
-part_small x e q = subst (λ (j : ℕ). j < 256) (sym e) (below-256 x q).1
-
--- What is a whole number k below 256 is above -1 and below 256, and k is its whole part.
-pub whole-passes : (x : Float) (k : ℕ) → k < 256 → IsWhole x k → (lt (fin true 1 (pos 0)) x ≡ true) × (lt x (fin false 1 (pos 8)) ≡ true) × (to_unsigned 64 x ≡ k)
-unfolding lt to_unsigned
-whole-passes nan k h w = elim w [ ]
-whole-passes (inf s) k h w = elim w [ ]
-whole-passes (fin true m e) k h w =
-    let p = down_pos e in
-    let z : m * up e ≡ 0 = w.0 ∙ ap (λ (j : ℕ). j * down e) (w.1 refl) ∙ zero-mul (down e) in (
-      is_true (ltb (m * up e * 1) (1 * 1 * down e)) (lt→ltb (m * up e * 1) (1 * 1 * down e) (omega arith)),
-      is_true (ltb 0 (m * up e * 1 + 256 * down e)) (lt→ltb 0 (m * up e * 1 + 256 * down e) (omega arith)),
-      sym (w.1 refl),
-    )
-whole-passes (fin false m e) k h w =
-    let p = down_pos e in
-    let d : m * up e / down e ≡ k = ap (λ (a : ℕ). a / down e) w.0 ∙ mul-div_cancel k p in (
-      is_true (ltb 0 (1 * 1 * down e + m * up e * 1)) (lt→ltb 0 (1 * 1 * down e + m * up e * 1) (omega arith)),
-      is_true (ltb (m * up e * 1) (256 * down e)) (lt→ltb (m * up e * 1) (256 * down e) (omega (arith, w.0, mul-le-mul_right (down e) h))),
-      omega arith,
-    )
+-- A whole number k below 256 is its own whole part.
+pub whole-part : (x : Float) (k : ℕ) → k < 256 → IsWhole x k → to_unsigned 8 x ≡ k
+unfolding to_unsigned
+whole-part nan k h w = elim w [ ]
+whole-part (inf s) k h w = elim w [ ]
+whole-part (fin true m e) k h w = sym (w.1 refl)
+whole-part (fin false m e) k h w =
+    let d : m * up e / down e ≡ k = ap (λ (a : ℕ). a / down e) w.0 ∙ mul-div_cancel k (down_pos e) in
+    omega arith

@@ -1,13 +1,9 @@
 -- What the contracts of loading the weights say.
-use Rattle.std.specs.Prelude.{◌≡◌, ℕ, ◌+◌, ◌<◌, ◌≤◌, Bool, not, ◌||◌, List, length, ◌==◌}
+use Rattle.std.specs.Prelude.{◌≡◌, ℕ, ◌<◌, Bool, not, ◌||◌, List, length, ◌==◌}
 use Rattle.lattice.specs.Lists.{at, some}
 use Rattle.net.specs.declared.Counts.{Counts}
-use Rattle.net.specs.Job.{segment_weight, weight_at, weight_form}
+use Rattle.net.specs.Job.{segment_weight, weight_form}
 use Rattle.net.specs.Weights.{last_at, counts_as, fraction, weight_count, weighs}
-
--- Weight record w is there.
-abbrev pub Readable : Counts → List ℕ → ℕ → Type 0
-Readable c b w = weight_at c w + 16 ≤ length b
 
 -- Is the fraction of weight record w, where it has one, accepted?
 abbrev pub accepted : Counts → List ℕ → ℕ → Bool

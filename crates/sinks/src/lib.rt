@@ -1,24 +1,23 @@
 // The weights of the sinks, loaded once for a job into a table: what a sink's fraction counts, and each weight record put at its segment.
 #![tactic(auto)]
 
-ghost use Rattle.std.specs.Prelude.{◌≡◌, suc, ◌<◌, ◌≤◌, true, false, not, ◌||◌, ◌==◌, from_bits};
-ghost use Rattle.std.specs.Float.Ieee.{nan_bits};
+ghost use Rattle.std.specs.Prelude.{◌≡◌, suc, ◌+◌, ◌^◌, ◌<◌, ◌≤◌, true, from_bits};
 ghost use Rattle.std.specs.Float.{binary64};
-ghost use Rattle.net.specs.Job.{weight_form, weight_bits};
+ghost use Rattle.net.specs.Job.{byte, word, weight_at, weight_bits};
 ghost use Rattle.net.specs.Questions.{question20, question21};
-ghost use Rattle.net.specs.Checked.{Held, WeightsHeld, WeightFits, SinkWeights};
+ghost use Rattle.net.specs.Checked.{WeightFits, SinkWeights};
 ghost use Rattle.sinks.specs.Told.{CountOf, WeightOf, SinkOf};
-ghost use Rattle.sinks.specs.Loaded.{accepted, Readable, LoadedTo};
+ghost use Rattle.sinks.specs.Loaded.{accepted, LoadedTo};
 
-use net::Counts;
+use job::Records;
 use quantity::Capacitance;
+use std::num::{f64_from_bits_with_nan, saturating_f64_to_u8};
 
-// The weight that a weight record has: a fraction, a whole number, or none.
+// The weight that a weight record has, where it has one.
 #[derive(Clone, Copy)]
 pub enum Weight {
     Fraction(f64),
     Whole(u8),
-    Absent,
 }
 
 // A sink's entry while a job is read: its fraction beside its capacitance.
@@ -28,130 +27,104 @@ pub struct Sink {
     pub capacitance: Capacitance,
 }
 
-// What a fraction counts, a whole number from 0 to 255, or that it is refused.
-#[derive(Clone, Copy)]
-pub enum Counted {
-    Count(u8),
-    Refused,
-}
-
-// What the sink's fraction counts. The product of a fraction below 1 is exact, so it is compared with its own whole part. The first test lets the whole
-// part be taken, the second keeps 256 out and lets it be a byte; minus zero passes both.
-fn count(sink: Sink) -> Counted
+// What the sink's fraction counts, a whole number from 0 to 255, or none where it is refused. The product of a fraction below 1 is exact, so it is
+// compared with its own whole part. What is negative has the whole part 0, what is above 255 has 255, and a NaN equals nothing; minus zero equals 0.
+fn count(sink: Sink) -> Option<u8>
     ensures { CountOf sink.weight result }
 {
     let product = sink.weight * 256.0;
-    if product > -1.0 {
-        if product < 256.0 {
-            let whole = std::num::truncating_f64_to_u64(product);
-            if product == whole as f64 {
-                return Counted::Count(whole as u8);
-            }
-        }
-    }
-    Counted::Refused
+    let whole = saturating_f64_to_u8(product);
+    (product == f64::from(whole)).then_some(whole)
 }
 
-// Are these the bits of a number, not a NaN's? A NaN has all ones as its exponent, and digits that are not 0.
-fn is_number(bits: u64) -> bool
-    ensures { result ≡ not (nan_bits binary64 bits) }
+// A byte of weight record w.
+fn weight_byte(records: &Records<'_>, w: usize, at: usize) -> usize
+    requires { (w < records.now.weights) × (at < 16) }
+    ensures { (result ≡ byte records.now.bytes.now (weight_at records.now.counts w + at)) × (result < 256) }
 {
-    !(0x7FF0000000000000 < bits % 0x8000000000000000)
+    records.weights().byte(w, at)
 }
 
-// The number that the bits are.
-fn number(bits: u64) -> f64
-    requires { nan_bits binary64 bits ≡ false }
-    ensures { result ≡ from_bits binary64 bits }
+// A word of weight record w.
+fn weight_word(records: &Records<'_>, w: usize, at: usize) -> u64
+    requires { (w < records.now.weights) × (at ≤ 12) }
+    ensures { (result ≡ word records.now.bytes.now (weight_at records.now.counts w + at)) × (result < 2 ^ 32) }
 {
-    f64::from_bits(bits)
+    let run = records.weights();
+    job::word_at(run.bytes, 16 * (run.start + w) + at)
 }
 
-// The bits of weight record w's fraction.
-fn fraction_bits(job: &[u8], counts: Counts, w: usize) -> u64
-    requires { Readable counts job.now w }
-    ensures { result ≡ weight_bits counts job.now w }
+// The fraction of weight record w.
+fn fraction(records: &Records<'_>, w: usize) -> f64
+    requires { w < records.now.weights }
+    ensures { result ≡ from_bits binary64 (weight_bits records.now.counts records.now.bytes.now w) }
 {
-    job::weight_word(job, counts, w, 8) + 4294967296 * job::weight_word(job, counts, w, 12)
-}
-
-// Are the bits of weight record w's fraction, where it has one, those of a number?
-fn has_number(job: &[u8], counts: Counts, w: usize) -> bool
-    requires { Readable counts job.now w }
-    ensures { result ≡ not (weight_form counts job.now w == 2) || not (nan_bits binary64 (weight_bits counts job.now w)) }
-{
-    let form = job::weight_byte(job, counts, w, 2);
-    (form != 2) | is_number(fraction_bits(job, counts, w))
+    let low = weight_word(records, w, 8);
+    let high = weight_word(records, w, 12);
+    f64_from_bits_with_nan(low + 4294967296 * high)
 }
 
 // The weight that weight record w has.
-fn weight_of(job: &[u8], counts: Counts, w: usize) -> Weight
-    requires readable { Readable counts job.now w × WeightFits counts job.now w }
-    requires w_value { weight_form counts job.now w ≡ 2 → nan_bits binary64 (weight_bits counts job.now w) ≡ false }
-    ensures { WeightOf counts job.now w result }
+fn weight_of(records: &Records<'_>, w: usize) -> Option<Weight>
+    requires readable { w < records.now.weights }
+    requires fits { WeightFits records.now.counts records.now.bytes.now w }
+    ensures { WeightOf records.now.counts records.now.bytes.now w result }
 {
-    let form = job::weight_byte(job, counts, w, 2);
-    if form == 1 {
-        return Weight::Whole(job::weight_word(job, counts, w, 4) as u8);
+    match weight_byte(records, w, 2) {
+        1 => Some(Weight::Whole(weight_word(records, w, 4) as u8)),
+        2 => Some(Weight::Fraction(fraction(records, w))),
+        _ => None,
     }
-    if form == 2 {
-        return Weight::Fraction(number(fraction_bits(job, counts, w)));
-    }
-    Weight::Absent
 }
 
 // The entry of segment i's sink, whose fraction is `weight`.
-fn entry(job: &[u8], counts: Counts, i: usize, weight: f64) -> Sink
-    requires { Held counts job.now × (i < counts.segments) }
-    ensures { SinkOf counts job.now i weight result }
+fn entry(records: &Records<'_>, i: usize, weight: f64) -> Sink
+    requires { i < records.now.counts.segments }
+    ensures { SinkOf records.now.counts records.now.bytes.now i weight result }
 {
     Sink {
-        weight: weight,
-        capacitance: job::sink(job, counts, i),
+        weight,
+        capacitance: Capacitance(records.segments().word(i, 8) as u64),
     }
 }
 
 // Puts what weight record w counts, where it has a weight, at its segment. Is its fraction, where it has one, accepted?
-fn load_one(job: &[u8], counts: Counts, w: usize, weights: &mut [u8; 64]) -> bool
-    requires held { Held counts job.now × (counts.segments ≤ 64) }
-    requires readable { Readable counts job.now w × WeightFits counts job.now w }
-    requires loaded_to { LoadedTo counts job.now w weights.old }
-    ensures asked { result ≡ accepted counts job.now w }
-    ensures loaded { result ≡ true → LoadedTo counts job.now (suc w) weights.new }
+fn load_one(records: &Records<'_>, w: usize, weights: &mut [u8; 64]) -> bool
+    requires few { records.now.counts.segments ≤ 64 }
+    requires readable { w < records.now.weights }
+    requires fits { WeightFits records.now.counts records.now.bytes.now w }
+    requires loaded_to { LoadedTo records.now.counts records.now.bytes.now w weights.old }
+    ensures asked { result ≡ accepted records.now.counts records.now.bytes.now w }
+    ensures loaded { result ≡ true → LoadedTo records.now.counts records.now.bytes.now (suc w) weights.new }
 {
-    if !has_number(job, counts, w) {
-        return false;
-    }
-    let i = job::weight_byte(job, counts, w, 1);
-    match weight_of(job, counts, w) {
-        Weight::Fraction(x) => match count(entry(job, counts, i, x)) {
-            Counted::Count(k) => {
+    let i = weight_byte(records, w, 1);
+    match weight_of(records, w) {
+        Some(Weight::Fraction(x)) => match count(entry(records, i, x)) {
+            Some(k) => {
                 weights[i] = k;
                 true
             }
-            Counted::Refused => false,
+            None => false,
         },
-        Weight::Whole(k) => {
+        Some(Weight::Whole(k)) => {
             weights[i] = k;
             true
         }
-        Weight::Absent => true,
+        None => true,
     }
 }
 
-// Question 21, of n weight records: is 256 times each fraction a whole number from 0 to 255? `weights` has each segment's own byte before, and where the
-// question passes the weight of each segment's sink afterwards. A fraction that fails ends the loop.
-pub fn load(job: &[u8], counts: Counts, n: usize, weights: &mut [u8; 64]) -> bool
-    requires held { Held counts job.now × (counts.segments ≤ 64) }
-    requires weights_held { WeightsHeld counts job.now n }
-    requires job_value { question20 counts job.now ≡ true }
-    requires loaded_to { LoadedTo counts job.now 0 weights.old }
-    ensures asked { result ≡ question21 counts job.now }
-    ensures loaded { result ≡ true → SinkWeights counts job.now weights.new }
+// Question 21: is 256 times each fraction a whole number from 0 to 255? `weights` has each segment's own byte before, and where the question passes the
+// weight of each segment's sink afterwards. A fraction that fails ends the loop.
+pub fn load(records: &Records<'_>, weights: &mut [u8; 64]) -> bool
+    requires few { records.now.counts.segments ≤ 64 }
+    requires fit { question20 records.now.counts records.now.bytes.now ≡ true }
+    requires loaded_to { LoadedTo records.now.counts records.now.bytes.now 0 weights.old }
+    ensures asked { result ≡ question21 records.now.counts records.now.bytes.now }
+    ensures loaded { result ≡ true → SinkWeights records.now.counts records.now.bytes.now weights.new }
 {
-    for w in 0..n {
-        let passed = load_one(job, counts, w, weights);
-        if !passed {
+    for w in 0..records.weights {
+        if !load_one(records, w, weights) {
             return false;
         }
     }
