@@ -10,6 +10,10 @@ module _ (b : List ℕ) where
   abbrev pub byte_in_order : ℕ → ℕ → ℕ → Bool
   byte_in_order start at k = leb (byte_of b start at k) (byte_of b start at (k + 1))
 
+  -- Is the byte at `at` of record k below that of the next?
+  abbrev pub byte_rises : ℕ → ℕ → ℕ → Bool
+  byte_rises start at k = ltb (byte_of b start at k) (byte_of b start at (k + 1))
+
   -- Is the number of a record its place in the run?
   abbrev pub number_in_order : ℕ → ℕ → Bool
   number_in_order start k = eqb (byte_of b start 1 k) k

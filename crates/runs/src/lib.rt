@@ -5,7 +5,7 @@ ghost use Rattle.std.specs.Prelude.{◌≡◌, ◌&&◌, ◌+◌, ◌*◌, ◌-�
 ghost use Rattle.lattice.specs.Lists.{every};
 ghost use Rattle.net.specs.Questions.{in_range};
 ghost use Rattle.job.specs.Runs.{byte_of, word_of};
-ghost use Rattle.runs.specs.Records.{byte_in_order, number_in_order, zero_from, zero_bytes, byte_within, rows_in_order, range_within};
+ghost use Rattle.runs.specs.Records.{byte_in_order, byte_rises, number_in_order, zero_from, zero_bytes, byte_within, rows_in_order, range_within};
 
 use job::Run;
 
@@ -60,21 +60,23 @@ pub fn within<F: Field>(run: &Run<'_>, field: F, least: usize, most: usize) -> b
     })
 }
 
-// Is the byte at `at` of each record from `least` to `most`, and does it fall nowhere from one to the next? Where it falls nowhere, the first tells
-// that none is below `least`, and the last that none is above `most`.
+// Is the byte at `at` of each record from `least` to `most`, and does it fall nowhere from one to the next?
 pub fn bytes_in_order(run: &Run<'_>, at: usize, least: usize, most: usize) -> bool
-    requires { (at < 16) × (least ≤ most) }
+    requires { at < 16 }
     ensures { result ≡ every run.now.count (byte_within run.now.bytes.now run.now.start at least most) && every (run.now.count - 1) (byte_in_order run.now.bytes.now run.now.start at) }
 {
-    let mut before = least;
-    for k in 0..run.count {
-        let byte = run.byte(k, at);
-        if byte < before {
-            return false;
-        }
-        before = byte;
-    }
-    before <= most
+    let inside = within(run, Byte(at), least, most);
+    let pairs = run.count.saturating_sub(1);
+    inside & (0..pairs).all(|k| run.byte(k, at) <= run.byte(k + 1, at))
+}
+
+// Does the byte at `at` strictly rise from each record to the next?
+pub fn bytes_rise(run: &Run<'_>, at: usize) -> bool
+    requires { at < 16 }
+    ensures { result ≡ every (run.now.count - 1) (byte_rises run.now.bytes.now run.now.start at) }
+{
+    let pairs = run.count.saturating_sub(1);
+    (0..pairs).all(|k| run.byte(k, at) < run.byte(k + 1, at))
 }
 
 // Do the numbers of the records count from 0?
@@ -105,7 +107,8 @@ pub fn bytes_zero(run: &Run<'_>, at: usize, n: usize) -> bool
 pub fn table_in_order(run: &Run<'_>) -> bool
     ensures { result ≡ every (run.now.count - 1) (rows_in_order run.now.bytes.now run.now.start) }
 {
-    (0..run.count.saturating_sub(1)).all(|k| {
+    let pairs = run.count.saturating_sub(1);
+    (0..pairs).all(|k| {
         let falls = run.word(k + 1, 4) < run.word(k, 4);
         let rises = run.word(k, 8) < run.word(k + 1, 8);
         falls & rises

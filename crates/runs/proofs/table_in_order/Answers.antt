@@ -5,4 +5,4 @@ use Rattle.runs.proofs.All.{every-below}
 use Rattle.runs.proofs.table_in_order.Goals as goal
 
 pub returns : goal.returns
-returns c = rw (← c.saturating_sub.ensures) (every-below c.all.ensures.ran (λ k q t. search (rules, tests)) (λ k q t. search (rules, tests)))
+returns c = rw (← c.saturating_sub-pairs.ensures) (every-below c.all.ensures.ran (λ k q t. search (rules, tests)) (λ k q t. search (rules, tests)))
