@@ -1,4 +1,3 @@
-pub mod Entries
 pub mod Repeating
 pub mod Seating
 pub mod Tallies

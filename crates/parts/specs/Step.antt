@@ -13,12 +13,6 @@ pub record Fields (net : Net) (x : List ℕ) (i : ℕ) (s : Segment) : Type 0 wh
   pub sink : s.sink.0 ≡ net.sink i
   pub wire : WireAt net i (at x (net.stages + i)) s.wire
 
--- No part of the tree.
-pub record Empty (r : Part) : Type 0 where
-  pub weight : r.weight ≡ 0
-  pub load : r.load.0 ≡ 0
-  pub delay : r.delay.0 ≡ 0
-
 -- Twice what a wire's resistance charges, and twice what the segment contributes, where the load under the segment is l.
 abbrev pub charge : Wire → ℕ → ℕ
 charge w l = w.capacitance.0 + 2 * l

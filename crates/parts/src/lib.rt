@@ -2,19 +2,16 @@
 // stages.
 #![tactic(auto)]
 
-ghost use Rattle.std.specs.Prelude.{◌≡◌, suc, ◌+◌, ◌*◌, ◌<◌, length};
+ghost use Rattle.std.specs.Prelude.{◌≡◌, suc, ◌*◌, ◌<◌};
 ghost use Rattle.net.specs.Net.{net_by};
-ghost use Rattle.net.specs.Checked.{Checked, SinkWeights};
-ghost use Rattle.stages.specs.Ready.{Ready};
-ghost use Rattle.parts.specs.Step.{Fields, Empty, lag, RoomCharged, RoomBehind, Behind, RoomJoined, Joined};
-ghost use Rattle.parts.specs.Seats.{SeatedTo, Seated};
+ghost use Rattle.parts.specs.Step.{Fields, lag, RoomCharged, RoomBehind, Behind, RoomJoined, Joined};
+ghost use Rattle.parts.specs.Seats.{Seated};
 ghost use Rattle.parts.specs.Tally.{branches_of, RepeatedOf, Tally, BehindStages};
-ghost use Rattle.parts.specs.Entries.{part_at, Put};
 
-use job::Wire;
-use net::Counts;
+use job::{Job, Wire};
 use quantity::{Capacitance, Delay};
-use stages::DelayAndLoad;
+use stages::{DelayAndLoad, SizedJob};
+use std::ops::Add;
 
 // A segment with its wire at the sizing's width.
 #[derive(Clone, Copy)]
@@ -39,18 +36,27 @@ pub struct PartAndCharge {
     pub charge: Capacitance,
 }
 
-// Segment i, as the sizing has it; `weights` has the weights of the sinks.
-pub fn sized(job: &[u8], counts: Counts, weights: &[u8; 64], sizing: &[u8], i: usize) -> Segment
-    requires ready { Ready counts job.now sizing.now }
-    requires sink_weights { SinkWeights counts job.now weights.now }
-    requires i_lt_segments { i < counts.segments }
-    ensures { Fields (net_by counts job.now) sizing.now i result }
-{
-    let width = job::index_at(sizing, counts.stages + i);
-    Segment {
-        weight: job::weight(weights, i),
-        sink: job::sink(job, counts, i),
-        wire: job::wire_at(job, counts, i, width),
+// No part of the tree.
+pub const NOTHING: Part = Part {
+    weight: 0,
+    load: Capacitance(0),
+    delay: Delay(0),
+};
+
+// Two parts together.
+impl Add for Part {
+    type Output = Part;
+
+    ghost can_add = { RoomJoined };
+
+    ghost add_gives = { Joined };
+
+    fn add(self, other: Part) -> Part {
+        Part {
+            weight: self.weight + other.weight,
+            load: self.load + other.load,
+            delay: self.delay + other.delay,
+        }
     }
 }
 
@@ -59,122 +65,80 @@ fn segment_delay(wire: Wire, under: Capacitance) -> Delay
     requires { RoomCharged wire under.0 }
     ensures { result.0 ≡ lag wire under.0 }
 {
-    quantity::delay_through(
-        wire.resistance,
-        quantity::charged_twice(wire.capacitance, under),
-    )
+    wire.resistance * wire.capacitance.charged_twice(under)
 }
 
-// A segment with the part of the tree that hangs at its far end.
-pub fn behind(s: Segment, part: Part) -> Part
-    requires { RoomBehind s part }
-    ensures { Behind s part result }
-{
-    let weight = s.weight + part.weight;
-    let wire = s.wire;
-    let under = quantity::add_capacitance(s.sink, part.load);
-    let own = segment_delay(wire, under);
-    Part {
-        weight: weight,
-        load: quantity::add_capacitance(wire.capacitance, under),
-        delay: quantity::add_delay(quantity::weighted(weight, own), part.delay),
+impl Segment {
+    // The segment with the part of the tree that hangs at its far end.
+    pub fn behind(self, part: Part) -> Part
+        requires { RoomBehind self part }
+        ensures { Behind self part result }
+    {
+        let weight = self.weight + part.weight;
+        let under = self.sink + part.load;
+        Part {
+            weight,
+            load: self.wire.capacitance + under,
+            delay: weight * segment_delay(self.wire, under) + part.delay,
+        }
     }
 }
 
-// Two parts together.
-pub fn joined(a: Part, b: Part) -> Part
-    requires { RoomJoined a b }
-    ensures { Joined a b result }
+// Segment i, as the sizing has it.
+pub fn sized(net: &SizedJob<'_>, i: usize) -> Segment
+    requires { i < net.now.job.counts.segments }
+    ensures { Fields (net_by net.now.job.counts net.now.job.bytes.now) net.now.sizing.now i result }
 {
-    Part {
-        weight: a.weight + b.weight,
-        load: quantity::add_capacitance(a.load, b.load),
-        delay: quantity::add_delay(a.delay, b.delay),
+    let p = net.job.counts.stages + i;
+    Segment {
+        weight: u64::from(net.weights[i]),
+        sink: net.job.sink(i),
+        wire: net
+            .job
+            .wire(net.job.table(p), i, usize::from(net.sizing[p])),
     }
 }
 
-// No part of the tree.
-pub fn nothing() -> Part
-    ensures { Empty result }
+// Which repeater sits at the far end of each segment.
+pub fn seats(job: &Job<'_>) -> [Option<u8>; 64]
+    ensures { Seated (net_by job.now.counts job.now.bytes.now) result }
 {
-    Part {
-        weight: 0,
-        load: Capacitance(0),
-        delay: Delay(0),
+    let mut seats = [None; 64];
+    for r in 0..job.counts.repeaters {
+        let i = job.site(r);
+        seats[i] = Some(r as u8);
     }
-}
-
-// Gives each repeater its seat: its number stands at its segment.
-pub fn seat(job: &[u8], counts: Counts, seats: &mut [u8; 64])
-    requires checked { Checked counts job.now }
-    requires seated_to { SeatedTo (net_by counts job.now) 0 seats.old }
-    ensures { Seated (net_by counts job.now) seats.new }
-{
-    let mut r = 0;
-    while r < counts.repeaters {
-        let i = job::site(job, counts, r);
-        seats[i] = r as u8;
-        r += 1;
-    }
-}
-
-// Entry r of a table of parts: the part's weight, load and delay.
-pub fn part_at(parts: &[u64], r: usize) -> Part
-    requires { 3 * r + 2 < length parts.now }
-    ensures { result ≡ part_at parts.now r }
-{
-    Part {
-        weight: parts[3 * r],
-        load: Capacitance(parts[3 * r + 1]),
-        delay: Delay(parts[3 * r + 2]),
-    }
-}
-
-// Makes p entry r of such a table.
-pub fn put_part(parts: &mut [u64], r: usize, p: Part)
-    requires { 3 * r + 2 < length parts.old }
-    ensures { Put part_at parts.old r p parts.new }
-{
-    parts[3 * r] = p.weight;
-    parts[3 * r + 1] = p.load.0;
-    parts[3 * r + 2] = p.delay.0;
+    seats
 }
 
 // The branches that repeater r drives, as they hang behind it: above it only its gate is seen, and each sink below it waits for it. And what it
 // charges.
-pub fn repeated(job: &[u8], counts: Counts, sizing: &[u8], r: usize, part: Part) -> PartAndCharge
-    requires ready { Ready counts job.now sizing.now }
-    requires r_lt_repeaters { r < counts.repeaters }
-    requires tally { Tally (net_by counts job.now) sizing.now branches_of (suc ((net_by counts job.now).site r)) part }
-    ensures { RepeatedOf (net_by counts job.now) sizing.now r result }
+pub fn repeated(net: &SizedJob<'_>, r: usize, part: Part) -> PartAndCharge
+    requires r_lt_repeaters { r < net.now.job.counts.repeaters }
+    requires tally { Tally (net_by net.now.job.counts net.now.job.bytes.now) net.now.sizing.now branches_of (suc ((net_by net.now.job.counts net.now.job.bytes.now).site r)) part }
+    ensures { RepeatedOf (net_by net.now.job.counts net.now.job.bytes.now) net.now.sizing.now r result }
 {
-    let size = job::index_at(sizing, counts.stages + counts.segments + r);
-    let seen = job::gate(job, counts, size);
-    let behind = part.load;
-    let one = stages::driver(job, counts, size, behind);
-    let charge = one.load;
-    let hangs = Part {
-        weight: part.weight,
-        load: seen,
-        delay: quantity::add_delay(quantity::weighted(2 * part.weight, one.delay), part.delay),
-    };
+    let size = usize::from(net.sizing[net.job.counts.stages + net.job.counts.segments + r]);
+    let seen = net.job.gate(size);
+    let driven = stages::driver(&net.job, size, part.load);
     PartAndCharge {
-        part: hangs,
-        charge: charge,
+        part: Part {
+            weight: part.weight,
+            load: seen,
+            delay: 2 * part.weight * driven.delay + part.delay,
+        },
+        charge: driven.load,
     }
 }
 
 // The scaled delay, where the branches at the source are counted up, and what the stages charge.
-pub fn behind_stages(job: &[u8], counts: Counts, sizing: &[u8], source: Part) -> DelayAndLoad
-    requires ready { Ready counts job.now sizing.now }
-    requires tally { Tally (net_by counts job.now) sizing.now branches_of 0 source }
-    ensures { BehindStages (net_by counts job.now) sizing.now result }
+pub fn behind_stages(net: &SizedJob<'_>, source: Part) -> DelayAndLoad
+    requires { Tally (net_by net.now.job.counts net.now.job.bytes.now) net.now.sizing.now branches_of 0 source }
+    ensures { BehindStages (net_by net.now.job.counts net.now.job.bytes.now) net.now.sizing.now result }
 {
-    let chain = stages::stages(job, counts, sizing, source.load);
-    let before = quantity::weighted(2, chain.delay);
-    let charge = chain.load;
+    let chain = stages::stages(net, source.load);
     DelayAndLoad {
-        delay: quantity::add_delay(quantity::weighted(source.weight, before), source.delay),
-        load: charge,
+        delay: source.weight * (2 * chain.delay) + source.delay,
+        load: chain.load,
     }
 }
