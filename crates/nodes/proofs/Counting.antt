@@ -3,14 +3,14 @@
 use mathlib.Core.Path.{◌≡◌, sym, ◌∙◌}
 use mathlib.Core.Bool.{cond}
 use mathlib.Core.List.{List}
-use Prim.Native.Nat.{ℕ, suc, ◌+◌, ◌*◌, ◌≤◌, ◌<◌}
+use Prim.Native.Nat.{ℕ, suc, ◌+◌, ◌≤◌, ◌<◌}
 use native.Mathlib.Decide.{ℕ_discrete}
-use native.Mathlib.Numerals.{add-one}
 use native.Mathlib.Omega.{arith}
 use borrow.Author.Tests.{eq-eqb, ne_eqb}
 use lib.Dec.{eqb}
-use lib.ListN.{length, replicate, length-replicate, get_or-replicate}
-use Rattle.lattice.specs.Lists.{at, sum}
+use lib.ListN.{length, replicate, set, length-set, length-replicate, get_or-replicate}
+use lib.Seq.{get_or-set_same, get_or-set_other}
+use Rattle.lattice.specs.Lists.{sum}
 use Rattle.net.specs.declared.Counts.{Counts}
 use Rattle.net.specs.Net.{Net, net_by}
 use Rattle.net.specs.Checked.{Ordered, Limited}
@@ -21,8 +21,8 @@ use Rattle.net.proofs.Bound.{branches-bounded, branches_load-small}
 use Rattle.stages.specs.Ready.{Ready}
 use Rattle.parts.specs.declared.Part.{Part}
 use Rattle.parts.specs.Step.{RoomJoined, Joined}
+use Rattle.parts.specs.Entries.{nothing, part_at}
 use Rattle.parts.specs.Tally.{branches_of, branch_of, weight_with, load_with, delay_with, Tally}
-use Rattle.parts.specs.Entries.{part_at, Put}
 use Rattle.parts.proofs.Tallies.{inside-small}
 use Rattle.nodes.specs.Counted.{Counted}
 
@@ -37,8 +37,8 @@ pub record Lacks (net : Net) (x : List ℕ) (i q : ℕ) (r : Part) : Type 0 wher
   pub delay : r.delay.0 + lacking net i (delay_with net x) q ≡ branches_of net (delay_with net x) q
 
 -- The branches of the segments from i on are in the table, each at the node that its segment hangs at.
-pub record CountedFrom (net : Net) (x : List ℕ) (i : ℕ) (nodes : List ℕ) : Type 0 where
-  pub long : length nodes ≡ 195
+pub record CountedFrom (net : Net) (x : List ℕ) (i : ℕ) (nodes : List Part) : Type 0 where
+  pub long : length nodes ≡ 65
   pub within : i ≤ net.segments
   pub held : (q : ℕ) → q ≤ net.segments → Lacks net x i q (part_at nodes q)
 
@@ -79,52 +79,43 @@ module _ {c : Counts} {job x : List ℕ} (ready : Ready c job x) where
         delay = omega (arith, v.delay, lacking-none net (delay_with net x) o.parents i q h k);
       }
 
-  pub counted_none : (nodes : List ℕ) → nodes ≡ replicate 195 0 → CountedFrom net x net.segments nodes
-  counted_none nodes e =
-      rw e
+  pub counted_none : CountedFrom net x net.segments (replicate 65 nothing)
+  counted_none =
       record {
-        long = length-replicate {A = ℕ} 195 0;
+        long = length-replicate {A = Part} 65 nothing;
         within = omega arith;
         held = λ q h.
+            rw (get_or-replicate {A = Part} 65 q nothing nothing (omega (arith, l.segments)))
             record {
-              weight = omega (arith, zero-at (3 * q) (omega (arith, l.segments)), lacking-all net (weight_with net x) o.parents q h);
-              load = omega (arith, zero-at (3 * q + 1) (omega (arith, l.segments)), lacking-all net (load_with net x) o.parents q h);
-              delay = omega (arith, zero-at (3 * q + 2) (omega (arith, l.segments)), lacking-all net (delay_with net x) o.parents q h);
+              weight = omega (arith, lacking-all net (weight_with net x) o.parents q h);
+              load = omega (arith, lacking-all net (load_with net x) o.parents q h);
+              delay = omega (arith, lacking-all net (delay_with net x) o.parents q h);
             };
       }
-    where
-      zero-at : (k : ℕ) → k < 195 → at (replicate 195 0) k ≡ 0
-      zero-at k h = get_or-replicate {A = ℕ} 195 k 0 0 h
 
-  pub counted-all : (i : ℕ) (nodes : List ℕ) → i ≤ 0 → CountedFrom net x i nodes → Counted net x nodes
+  pub counted-all : (i : ℕ) (nodes : List Part) → i ≤ 0 → CountedFrom net x i nodes → Counted net x nodes
   counted-all i nodes h v = record { long = v.long; held = λ q k. whole (omega arith) v.within (v.held q k) }
 
   -- segment i is next
-  module _ (t i : ℕ) (e : t ≡ suc i) (nodes : List ℕ) (v : CountedFrom net x t nodes) where
+  module _ (i : ℕ) (nodes : List Part) (v : CountedFrom net x (suc i) nodes) where
     pub next-within : i < net.segments
-    next-within = omega (arith, v.within)
+    next-within = v.within
 
     -- what hangs at its far end comes after it, so it is in the table
-    pub far-room : 3 * (i + 1) + 2 < length nodes
-    far-room = omega (arith, next-within, l.segments, v.long)
-
-    pub far-tally : (u : Part) → u ≡ part_at nodes (i + 1) → Tally net x branches_of (suc i) u
-    far-tally u f = rw (f, add-one i) (whole (omega arith) v.within (v.held (suc i) next-within))
+    pub far-tally : Tally net x branches_of (suc i) (part_at nodes (suc i))
+    far-tally = whole (omega arith) v.within (v.held (suc i) next-within)
 
     -- it hangs at the node q, which stands before its far end
     module _ (q : ℕ) (f : q ≡ net.parent i) where
-      pub near : q ≤ i
-      near = omega (arith, o.parents i next-within)
-
       node : q ≤ net.segments
-      node = omega (arith, near, next-within)
+      node = omega (arith, o.parents i next-within, next-within)
 
-      -- its branch b joins the part a there
-      module _ (a b : Part) (g : a ≡ part_at nodes q) (s : Tally net x branch_of i b) where
-        there : Lacks net x (suc i) q a
-        there = rw (g, ← e) (v.held q node)
+      -- its branch b joins the part there
+      module _ (b : Part) (s : Tally net x branch_of i b) where
+        there : Lacks net x (suc i) q (part_at nodes q)
+        there = v.held q node
 
-        pub joined-room : RoomJoined a b
+        pub joined-room : RoomJoined (part_at nodes q) b
         joined-room =
             record {
               weight = omega (arith, there.weight, s.weight, lacking-here net (weight_with net x) i q f, branches-bounded net o l 255 l.weights q node);
@@ -132,24 +123,24 @@ module _ {c : Counts} {job x : List ℕ} (ready : Ready c job x) where
               delay = omega (arith, there.delay, s.delay, lacking-here net (delay_with net x) i q f, inside-small ready q node);
             }
 
-        pub counted_step : (r : Part) → Joined a b r → (u : List ℕ) → Put part_at nodes q r u → CountedFrom net x i u
-        counted_step r j u p =
-            record { long = p.long ∙ v.long; within = omega (arith, next-within); held = λ k h. go k h (ℕ_discrete k q) }
+        pub counted_step : (r : Part) → Joined (part_at nodes q) b r → CountedFrom net x i (set nodes q r)
+        counted_step r j =
+            record { long = length-set nodes q r ∙ v.long; within = omega (arith, next-within); held = λ k h. go k h (ℕ_discrete k q) }
           where
-            go : (k : ℕ) → k ≤ net.segments → Dec (k ≡ q) → Lacks net x i k (part_at u k)
-            go k h (yes d) =
-                rw (d, p.here)
+            go : (k : ℕ) → k ≤ net.segments → Dec (k ≡ q) → Lacks net x i k (part_at (set nodes q r) k)
+            go k h (yes m) =
+                rw (m, get_or-set_same nodes q r nothing (omega (arith, node, l.segments, v.long)))
                 record {
                   weight = omega (arith, there.weight, s.weight, j.weight, lacking-here net (weight_with net x) i q f);
                   load = omega (arith, there.load, s.load, j.load, lacking-here net (load_with net x) i q f);
                   delay = omega (arith, there.delay, s.delay, j.delay, lacking-here net (delay_with net x) i q f);
                 }
-            go k h (no d) =
-                let m : Lacks net x (suc i) k (part_at nodes k) = rw (← e) (v.held k h) in
-                let n : k ≡ net.parent i → ⊥ = λ z. d (z ∙ sym f) in
-                rw (p.others k d)
+            go k h (no m) =
+                let w = v.held k h in
+                let n : k ≡ net.parent i → ⊥ = λ z. m (z ∙ sym f) in
+                rw (get_or-set_other nodes q k r nothing m)
                 record {
-                  weight = omega (arith, m.weight, lacking-past net (weight_with net x) i k n);
-                  load = omega (arith, m.load, lacking-past net (load_with net x) i k n);
-                  delay = omega (arith, m.delay, lacking-past net (delay_with net x) i k n);
+                  weight = omega (arith, w.weight, lacking-past net (weight_with net x) i k n);
+                  load = omega (arith, w.load, lacking-past net (load_with net x) i k n);
+                  delay = omega (arith, w.delay, lacking-past net (delay_with net x) i k n);
                 }

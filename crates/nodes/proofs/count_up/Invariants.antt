@@ -4,7 +4,4 @@ use Rattle.nodes.proofs.Counting.{CountedFrom}
 use Rattle.nodes.proofs.count_up.Given as goal
 
 abbrev pub invariant-loop-i : goal.invariant-loop-i
-invariant-loop-i l = CountedFrom (net_by l.counts l.job) l.sizing l.i l.nodes
-
-abbrev pub decreases-loop-i : goal.decreases-loop-i
-decreases-loop-i l = l.i
+invariant-loop-i l = CountedFrom (net_by l.net.job.counts l.net.job.bytes.now) l.net.sizing.now l.i l.nodes

@@ -1,27 +1,13 @@
 -- `nodes::hanging` meets its contract: the seat says whether a repeater sits there.
 use native.Mathlib.Omega.{arith}
-use Rattle.net.proofs.Questions.{limited}
-use Rattle.parts.proofs.Seating.{seat-site, seat-none}
+use Rattle.parts.proofs.Seating.{seat-none}
 use Rattle.parts.proofs.Tallies.{bare-hanging}
 use Rattle.nodes.proofs.hanging.Goals as goal
 
-pub repeated-requires : goal.repeated-requires
-repeated-requires c =
-    let b = c in
-    let p = b.requires in
-    let s = seat-site _ p.seated b.args.i _ p.i_lt_segments c.index-r.ensures.0 (omega arith) in
-    record { ready = b.requires.ready; r_lt_repeaters = s.0; tally = rw s.1 p.tally }
+pub repeated-requires-clause-r_lt_repeaters : goal.repeated-requires-clause-r_lt_repeaters
+repeated-requires-clause-r_lt_repeaters c =
+    let r = c.requires.seated.only c.args.i c.in-Some.r c.requires.i_lt_segments c.in-Some.is in
+    omega (arith, r.0)
 
-pub returns-then-r-lt8 : goal.returns-then-r-lt8
-returns-then-r-lt8 c =
-    let b = c in
-    let p = b.requires in
-    let s = seat-site _ p.seated b.args.i _ p.i_lt_segments c.index-r.ensures.0 (omega arith) in
-    rw s.1 at c.repeated.ensures.part
-
-pub returns : goal.returns
-returns c =
-    let b = c in
-    let p = b.requires in
-    let e = seat-none _ (limited b.requires.ready.checked) p.seated b.args.i (omega (arith, c.index-r.ensures.0)) in
-    bare-hanging b.requires.ready b.args.i _ e p.tally
+pub returns-in-None : goal.returns-in-None
+returns-in-None c = bare-hanging c.args.net.now.ready c.args.i _ (seat-none _ c.requires.seated c.args.i c.in-None.is) c.requires.tally
