@@ -7,6 +7,7 @@ ghost use Rattle.text.specs.Spelling.{spelling};
 ghost use Rattle.text.specs.Writing.{Puts};
 
 // A buffer, and the position behind all that was put into it.
+#[derive(Drop)]
 pub struct Text<'a> {
     pub out: &'a mut [u8],
     pub at: usize,
