@@ -32,6 +32,7 @@ fn merge(x: &[u8], best: &mut [u8], side: Side)
 }
 
 // The least delay so far, and in lent space, at each place, the smallest and the largest index of the sizings that have it.
+#[derive(Drop)]
 pub struct Kept<'k> {
     pub least: Delay,
     pub lean: &'k mut [u8],
