@@ -1,7 +1,7 @@
 -- Tests of one segment, and of the segment of one repeater, which the questions ask of each. A run starts at the record `start`; k is a record's place in
 -- it, from 0.
-use Rattle.std.specs.Prelude.{◌≡◌, Bool, not, ◌&&◌, ◌||◌, List, ℕ, ◌+◌, ◌<◌, leb, ltb, eqb, length, get_or}
-use Rattle.lattice.specs.Lists.{at}
+use Rattle.std.specs.Prelude.{◌≡◌, Bool, cond, not, ◌&&◌, ◌||◌, List, ℕ, ◌+◌, ◌<◌, leb, ltb, eqb, length, get_or}
+use Rattle.lattice.specs.Lists.{at, every}
 use Rattle.net.specs.declared.Counts.{Counts}
 use Rattle.net.specs.Job.{widths_of}
 use Rattle.job.specs.Runs.{byte_of, word_of}
@@ -36,3 +36,18 @@ module _ (b : List ℕ) where
   -- Is the segment of a repeater before that of the next?
   abbrev pub sites_rise : ℕ → ℕ → Bool
   sites_rise start k = ltb (byte_of b start 2 k) (byte_of b start 2 (k + 1))
+
+-- Where among all records the segments start.
+abbrev pub first_segment : Counts → ℕ
+first_segment c = c.widths + c.sizes + c.stages
+
+-- Is the first test above passed by each segment of a job, and has each a sink or branches?
+abbrev pub all_fit : Counts → List ℕ → Bool
+all_fit c b = every c.segments (segment_fits b c (first_segment c))
+
+abbrev pub all_end : Counts → List ℕ → List ℕ → Bool
+all_end c b first = every c.segments (sink_or_branch b first (first_segment c) c.segments)
+
+-- The number of the first of the two that fails, as question 10 or 11, or 0.
+abbrev pub segments_number : Counts → List ℕ → List ℕ → ℕ
+segments_number c b first = cond (all_fit c b) (cond (all_end c b first) 0 11) 10
