@@ -1,5 +1,8 @@
 -- Tests of one weight record, which the questions ask of each. A run starts at the record `start`; k is a record's place in it, from 0.
 use Rattle.std.specs.Prelude.{Bool, not, ◌&&◌, ◌||◌, List, ℕ, ◌+◌, leb, ltb, eqb}
+use Rattle.net.specs.declared.Counts.{Counts}
+use Rattle.net.specs.Job.{places_by}
+use Rattle.segments.specs.Tests.{first_segment}
 use Rattle.job.specs.Runs.{byte_of, word_of}
 
 module _ (b : List ℕ) where
@@ -18,8 +21,13 @@ module _ (b : List ℕ) where
   abbrev pub sink_there : (first n i : ℕ) → Bool
   sink_there first n i = ltb i n && not (eqb (byte_of b first 3 i) 0)
 
-  -- Is the segment of a record one of n, has it a sink, is the form at most 2, and a whole number at most 255?
-  abbrev pub weight_fits : (first n start k : ℕ) → Bool
-  weight_fits first n start k =
-      let form : ℕ = byte_of b start 2 k in
-      sink_there first n (byte_of b start 1 k) && (leb form 2 && (not (eqb form 1) || leb (word_of b start 4 k) 255))
+-- Where among all records the weight records start.
+abbrev pub first_weight : Counts → ℕ
+first_weight c = c.widths + c.sizes + places_by c
+
+-- Is the segment of weight record k of a job there, has it a sink, is the form at most 2, and a whole number at most 255?
+abbrev pub weight_fits : Counts → List ℕ → ℕ → Bool
+weight_fits c b k =
+    let start : ℕ = first_weight c in
+    let form : ℕ = byte_of b start 2 k in
+    sink_there b (first_segment c) c.segments (byte_of b start 1 k) && (leb form 2 && (not (eqb form 1) || leb (word_of b start 4 k) 255))

@@ -1,76 +1,53 @@
-// Tests of each weight record. A run is `count` records from the record `start` on; a test that fails ends its loop.
+// Tests of each weight record.
 #![tactic(auto)]
 
 ghost use Rattle.std.specs.Prelude.{◌≡◌, ◌-◌};
 ghost use Rattle.lattice.specs.Lists.{every};
-ghost use Rattle.job.specs.Runs.{HasRun};
 ghost use Rattle.weight_records.specs.Tests.{segments_rise, unnamed_zero, sink_there, weight_fits};
 
-// Does the number of the segment strictly rise from each record to the next? `before` is the node at the far end of the segment before, and 0 before
-// the first.
-pub fn segments_rise(job: &[u8], start: usize, count: usize) -> bool
-    requires { HasRun job.now start count }
-    ensures { result ≡ every (count - 1) (segments_rise job.now start) }
+use job::{Records, Run};
+
+// Does the number of the segment strictly rise from each record to the next?
+pub fn segments_rise(weights: &Run<'_>) -> bool
+    ensures { result ≡ every (weights.now.count - 1) (segments_rise weights.now.bytes.now weights.now.start) }
 {
-    let mut before = 0;
-    for k in 0..count {
-        let segment = job::byte_of(job, start, 1, k);
-        let node = segment + 1;
-        let passed = before < node;
-        if !passed {
-            return false;
-        }
-        before = node;
-    }
-    true
+    runs::bytes_rise(weights, 1)
 }
 
 // Are the unnamed bytes of each record zero? Bytes 4 to 7 are named in form 1 alone, bytes 8 to 15 in form 2 alone.
-pub fn unnamed_zero(job: &[u8], start: usize, count: usize) -> bool
-    requires { HasRun job.now start count }
-    ensures { result ≡ every count (unnamed_zero job.now start) }
+pub fn unnamed_zero(weights: &Run<'_>) -> bool
+    ensures { result ≡ every weights.now.count (unnamed_zero weights.now.bytes.now weights.now.start) }
 {
-    for k in 0..count {
-        let form = job::byte_of(job, start, 2, k);
-        let third = job::byte_of(job, start, 3, k);
-        let whole = job::word_of(job, start, 4, k);
-        let low = job::word_of(job, start, 8, k);
-        let high = job::word_of(job, start, 12, k);
+    (0..weights.count).all(|k| {
+        let form = weights.byte(k, 2);
+        let third = weights.byte(k, 3);
+        let whole = weights.word(k, 4);
+        let low = weights.word(k, 8);
+        let high = weights.word(k, 12);
         let number = (form == 1) | (whole == 0);
         let fraction = (form == 2) | ((low == 0) & (high == 0));
-        let passed = (third == 0) & (number & fraction);
-        if !passed {
-            return false;
-        }
-    }
-    true
+        (third == 0) & (number & fraction)
+    })
 }
 
-// Is segment i one of n, which stand from the record `first` on, and has it a sink?
-fn has_sink(job: &[u8], first: usize, n: usize, i: usize) -> bool
-    requires { HasRun job.now first n }
-    ensures { result ≡ sink_there job.now first n i }
+// Is segment i there, and has it a sink?
+fn has_sink(segments: &Run<'_>, i: usize) -> bool
+    ensures { result ≡ sink_there segments.now.bytes.now segments.now.start segments.now.count i }
 {
-    if i < n {
-        return job::byte_of(job, first, 3, i) != 0;
-    }
-    false
+    i < segments.count && segments.byte(i, 3) != 0
 }
 
-// Is the segment of each record one of n, which stand from the record `first` on, has it a sink, is the form at most 2, and a whole number at most 255?
-pub fn weights_fit(job: &[u8], first: usize, n: usize, start: usize, count: usize) -> bool
-    requires { HasRun job.now first n × HasRun job.now start count }
-    ensures { result ≡ every count (weight_fits job.now first n start) }
+// Is the segment of each weight record there, has it a sink, is the form at most 2, and a whole number at most 255?
+pub fn weights_fit(records: &Records<'_>) -> bool
+    ensures { result ≡ every records.now.weights (weight_fits records.now.counts records.now.bytes.now) }
 {
-    for k in 0..count {
-        let segment = job::byte_of(job, start, 1, k);
-        let form = job::byte_of(job, start, 2, k);
-        let whole = job::word_of(job, start, 4, k);
+    let segments = records.segments();
+    let weights = records.weights();
+    (0..weights.count).all(|k| {
+        let segment = weights.byte(k, 1);
+        let form = weights.byte(k, 2);
+        let whole = weights.word(k, 4);
         let number = (form != 1) | (whole <= 255);
-        let passed = has_sink(job, first, n, segment) & ((form <= 2) & number);
-        if !passed {
-            return false;
-        }
-    }
-    true
+        has_sink(&segments, segment) & ((form <= 2) & number)
+    })
 }
