@@ -6,3 +6,4 @@ pub mod Loads
 pub mod Driving
 pub mod Fixed
 pub mod Adding
+pub mod Turn

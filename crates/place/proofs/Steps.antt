@@ -6,23 +6,29 @@ use mathlib.Core.List.{List}
 use Prim.Native.Nat.{ℕ, ◌+◌, ◌*◌, ◌-◌, ◌^◌, ◌≤◌, ◌<◌}
 use native.Mathlib.Nat.{mul-le-mul}
 use native.Mathlib.Omega.{arith}
+use lib.ListN.{length}
 use Rattle.lattice.specs.Lists.{at}
 use Rattle.net.specs.declared.Counts.{Counts}
-use Rattle.net.specs.Job.{word, places_by, of_kind, place_at, widths_of, first_row, size_resistance, size_gate, size_output, segment_length, segment_layer}
+use Rattle.net.specs.Job.{places_by, of_kind, widths_of, size_resistance, size_gate, size_output, segment_layer}
 use Rattle.net.specs.Net.{net_by}
 use Rattle.net.specs.Checked.{Checked}
 use Rattle.net.specs.Driving.{delay_at, load_at, cost, slope}
 use Rattle.net.specs.Order.{order, placed_by, driving_by}
 use Rattle.net.proofs.Places.{of-stage, of-segment, of-repeater}
+use Rattle.job.specs.declared.Table.{Table}
 use Rattle.job.specs.Ranges.{driver_at}
+use Rattle.job.specs.Tables.{TableOf}
 use Rattle.job.proofs.Ranges.{wire-range, driver-range}
 use Rattle.positions.specs.Arranged.{PlacesInOrder}
 use Rattle.net.proofs.Order.{numbering}
-use Rattle.net.proofs.Questions.{ordered}
-use Rattle.net.proofs.InOrder.{in_limits}
+use Rattle.net.proofs.Questions.{ordered, wire-small}
+use Rattle.net.proofs.InOrder.{in_limits, placed, allowed-by}
+use Rattle.positions.specs.declared.Arranged.{Arranged}
+use Rattle.positions.specs.declared.Bounds.{Bounds}
 use Rattle.place.specs.declared.PlaceStep.{PlaceStep}
 use Rattle.place.specs.Partial.{StepOf}
-use Rattle.place.specs.ByCounts.{rows_at, DriverStepped}
+use Rattle.place.specs.declared.Spot.{Spot}
+use Rattle.place.specs.ByCounts.{AllowedInOrder, BoundsOf, SpotOf, StepInLimits, Stepped, DriverStepped}
 
 pub through-small : (r q : ℕ) → r ≤ 100000 → q ≤ 27500000 → r * q ≤ 2750000000000
 through-small r q h k = mul-le-mul h k
@@ -69,15 +75,24 @@ module _ (c : Counts) (b : List ℕ) (p : ℕ) (e : driver_at c p ≡ true) wher
         fits = s.fits;
       }
 
--- a size that a driver may have is one of the table
-pub size-at : {c : Counts} {b : List ℕ} → Checked c b → (p : ℕ) → driver_at c p ≡ true → p < places_by c → (net_by c b).highest p < c.sizes
-size-at {c} {b} k p e l = go (driver-range c p e)
+-- A size that a driver may have is one of the table, and its figures are small.
+pub record SizeFits (c : Counts) (b : List ℕ) (k : ℕ) : Type 0 where
+  pub there : k < c.sizes
+  pub resistance : size_resistance c b k ≤ 100000
+  pub gate : size_gate c b k ≤ 100000
+  pub output : size_output c b k ≤ 100000
+
+pub size-fits : {c : Counts} {b : List ℕ} → Checked c b → (p k : ℕ) → driver_at c p ≡ true → p < places_by c → k ≤ (net_by c b).highest p → SizeFits c b k
+size-fits {c} {b} checked p k e l h =
+    let there : k < c.sizes = omega (arith, most (driver-range c p e)) in
+    let small = checked.drivers k there in
+    record { there = there; resistance = small.0; gate = small.1; output = small.2 }
   where
-    go : (p < c.stages) ⊎ (c.stages + c.segments ≤ p) → (net_by c b).highest p < c.sizes
-    go (inl h) = k.sized p h
-    go (inr h) =
+    most : (p < c.stages) ⊎ (c.stages + c.segments ≤ p) → (net_by c b).highest p < c.sizes
+    most (inl m) = checked.sized p m
+    most (inr m) =
         let q : c.stages + c.segments + (p - (c.stages + c.segments)) ≡ p = omega arith in
-        subst (λ z. (net_by c b).highest z < c.sizes) q (k.repeater_sized (p - (c.stages + c.segments)) (omega arith))
+        subst (λ z. (net_by c b).highest z < c.sizes) q (checked.repeater_sized (p - (c.stages + c.segments)) (omega arith))
 
 -- What a wire has: its segment's sink, and the resistance and the capacitance of its width.
 module _ (c : Counts) (b : List ℕ) (p : ℕ) (e : driver_at c p ≡ false) where
@@ -104,24 +119,41 @@ module _ (c : Counts) (b : List ℕ) (p : ℕ) (e : driver_at c p ≡ false) whe
   unfolding slope
   wire-slope k = rw (e, by-segment (λ s. size_resistance c b k) (λ i. (net_by c b).wire_resistance i k) (λ r. size_resistance c b k)) (omega arith)
 
--- a width that a wire may have is one of its layer
-pub width-at : {c : Counts} {b : List ℕ} → Checked c b → (p : ℕ) → driver_at c p ≡ false → (net_by c b).highest p < widths_of c (segment_layer c b (p - c.stages))
-width-at {c} {b} k p e =
+  pub wire-step-of : (w u k l : ℕ) (r : PlaceStep) → r.load.0 ≡ (net_by c b).wire_capacitance (p - c.stages) k + l
+      → r.delay.0 ≡ w * ((net_by c b).wire_resistance (p - c.stages) k * ((net_by c b).wire_capacitance (p - c.stages) k + 2 * l)) + u * ((net_by c b).wire_capacitance (p - c.stages) k + l)
+      → r.delay.0 < 2 ^ 63 → StepOf (placed_by c b) w u p k l r
+  wire-step-of w u k l r g d f =
+      record {
+        delay = d ∙ sym (rw (wire-delay k l, wire-load k l));
+        load = g ∙ sym (wire-load k l);
+        fits = f;
+      }
+
+-- A wire is a segment, a width that it may have is one of its layer, and its figures there are small.
+pub record WidthFits (c : Counts) (b : List ℕ) (p k : ℕ) (t : Table) : Type 0 where
+  pub first : c.stages ≤ p
+  pub there : p - c.stages < c.segments
+  pub table : TableOf c b (c.stages + (p - c.stages)) t
+  pub width : k < widths_of c (segment_layer c b (p - c.stages))
+  pub resistance : (net_by c b).wire_resistance (p - c.stages) k ≤ 100000
+  pub capacitance : (net_by c b).wire_capacitance (p - c.stages) k ≤ 100000
+
+pub width-fits : {c : Counts} {b : List ℕ} → Checked c b → (p k : ℕ) (t : Table) → driver_at c p ≡ false → k ≤ (net_by c b).highest p → TableOf c b p t → WidthFits c b p k t
+width-fits {c} {b} checked p k t e h of =
     let w = wire-range c p e in
     let q : c.stages + (p - c.stages) ≡ p = omega arith in
-    subst (λ z. (net_by c b).highest z < widths_of c (segment_layer c b (p - c.stages))) q (k.wired (p - c.stages) (omega arith))
-
--- the step of segment i
-pub segment-step-of : (c : Counts) (b : List ℕ) (w u k l : ℕ) (r : PlaceStep) (i : ℕ) → i < c.segments → r.load.0 ≡ (net_by c b).wire_capacitance i k + l
-    → r.delay.0 ≡ w * ((net_by c b).wire_resistance i k * ((net_by c b).wire_capacitance i k + 2 * l)) + u * ((net_by c b).wire_capacitance i k + l) → r.delay.0 < 2 ^ 63
-    → StepOf (placed_by c b) w u (c.stages + i) k l r
-segment-step-of c b w u k l r i h g d f =
-    let e : driver_at c (c.stages + i) ≡ false = of-segment _ _ (λ s. true) (λ j. false) (λ z. true) (c.stages + i) (omega arith) (omega arith) in
-    let q : c.stages + i - c.stages ≡ i = omega arith in
+    let there : p - c.stages < c.segments = omega arith in
+    let most : (net_by c b).highest p < widths_of c (segment_layer c b (p - c.stages)) =
+    subst (λ z. (net_by c b).highest z < widths_of c (segment_layer c b (p - c.stages))) q (checked.wired (p - c.stages) there) in
+    let width : k < widths_of c (segment_layer c b (p - c.stages)) = omega arith in
+    let small = wire-small checked (p - c.stages) k there width in
     record {
-      delay = d ∙ sym (rw (wire-delay c b (c.stages + i) e k l, wire-load c b (c.stages + i) e k l, q));
-      load = g ∙ sym (wire-load c b (c.stages + i) e k l ∙ rw q);
-      fits = f;
+      first = w.0;
+      there = there;
+      table = subst (λ z. TableOf c b z t) (sym q) of;
+      width = width;
+      resistance = small.0;
+      capacitance = small.1;
     }
 
 -- What a position shows, by its place.
@@ -153,10 +185,30 @@ step_same c b w u t l k p r e s = let z = rw e at s in record { delay = z.delay;
 pub place_at_lem : {c : Counts} {b orders : List ℕ} → Checked c b → PlacesInOrder c b orders → (t : ℕ) → t < places_by c → at orders t < places_by c
 place_at_lem {c} {b} k o t h = rw (o.held t h) ((numbering (net_by c b) (ordered k).sites (ordered k).rising).inside t h)
 
--- Where the table and the length of a segment stand, by its place.
-module _ (c : Counts) (b : List ℕ) where
-  pub rows-segment : (p : ℕ) → c.stages ≤ p → rows_at c b p ≡ first_row c (segment_layer c b (p - c.stages))
-  rows-segment p h = let e : c.stages + (p - c.stages) ≡ p = omega arith in rw e
+pub place_few : (a : Arranged) (t : ℕ) → t < places_by a.job.counts → at a.order t < places_by a.job.counts
+place_few a t h = place_at_lem a.job.checked a.in_order t h
 
-  pub length-segment : (p : ℕ) → c.stages ≤ p → word b (place_at c p + 4) ≡ segment_length c b (p - c.stages)
-  length-segment p h = let e : c.stages + (p - c.stages) ≡ p = omega arith in rw e
+-- Its node is one of those before it.
+pub node_few : (a : Arranged) (t : ℕ) → t < places_by a.job.counts → at a.hangs t < 77
+node_few a t h = omega (arith, a.nodes.held t h, (placed a.job.checked).falls t h, (in_limits a.job.checked).few)
+
+-- So an allowed sizing has one of its indices there.
+pub index-at : {c : Counts} {b orders : List ℕ} (y : List ℕ) → PlacesInOrder c b orders → AllowedInOrder c b y → (t : ℕ) → t < places_by c → at y t ≤ (net_by c b).highest (at orders t)
+index-at {c} {b} y o a t h = rw (o.held t h) (((allowed-by (driving_by c b) y).0 a).high t h)
+
+-- Two sizings that are bounds.
+pub bounds-of : {c : Counts} {b : List ℕ} (bounds : Bounds) → AllowedInOrder c b bounds.lower.now → places_by c ≤ length bounds.upper.now → BoundsOf c b bounds
+bounds-of {c} {b} bounds low up =
+    let long = ((allowed-by (driving_by c b) bounds.lower.now).0 low).long in
+    record { lower = low; lower_long = omega arith; upper_long = up }
+
+-- A spot is its place with its weight and the resistance before it.
+module _ {c : Counts} {b : List ℕ} {w u p : ℕ} {s : Spot} (of : SpotOf c b w u p s) where
+  pub spot-table : TableOf c b s.place s.table
+  spot-table = rw of.place of.table
+
+  pub spot-limits : {k l : ℕ} → StepInLimits c b w u p k l → StepInLimits c b s.weight s.before.0 s.place k l
+  spot-limits m = rw (of.weight, of.before, of.place) m
+
+  pub spot-stepped : {k l : ℕ} {r : PlaceStep} → Stepped c b s.weight s.before.0 s.place k l r → Stepped c b w u p k l r
+  spot-stepped m = rw (of.weight, of.before, of.place) at m

@@ -1,13 +1,20 @@
 -- What the contracts of this crate and of those above it say, of the net of a job, by the counts of its records and its bytes. What one place adds is
 -- said of the place p by its number in the job; tables and sizings go by position.
-use Rattle.std.specs.Prelude.{◌≡◌, List, ℕ, ◌+◌, ◌*◌, ◌^◌, ◌≤◌, ◌<◌}
+use Rattle.std.specs.Prelude.{◌≡◌, false, List, ℕ, ◌+◌, ◌*◌, ◌^◌, ◌≤◌, ◌<◌, length}
 use Rattle.lattice.specs.Space.{Allowed}
+use Rattle.quantity.specs.declared.Capacitance.{Capacitance}
+use Rattle.quantity.specs.declared.Resistance.{Resistance}
 use Rattle.net.specs.declared.Counts.{Counts}
-use Rattle.net.specs.Job.{byte, word, places_by, widths_of, first_row, place_at, size_resistance, size_gate, size_output, segment_layer}
+use Rattle.net.specs.Job.{places_by, size_resistance, size_gate, size_output}
 use Rattle.net.specs.Net.{net_by}
 use Rattle.net.specs.Driving.{allowed_by, slope, before}
 use Rattle.net.specs.Order.{placed_by, driving_by}
+use Rattle.job.specs.Tables.{TableOf}
+use Rattle.job.specs.Ranges.{driver_at}
+use Rattle.positions.specs.declared.Bounds.{Bounds}
 use Rattle.place.specs.declared.PlaceStep.{PlaceStep}
+use Rattle.place.specs.declared.Spot.{Spot}
+use Rattle.place.specs.Figures.{loads, resistances}
 use Rattle.place.specs.Partial.{StepOf, WeightsFrom}
 use Rattle.place.specs.Held.{fixed_from, onward, DrivenFrom, UpstreamTo}
 
@@ -23,6 +30,12 @@ module _ (c : Counts) (b : List ℕ) where
   abbrev pub AllowedInOrder : List ℕ → Type 0
   AllowedInOrder y = Allowed (allowed_by (driving_by c b)) y
 
+  -- Two sizings: the lower is allowed, and each has an index for each place, the lower since it is allowed.
+  pub record BoundsOf (bounds : Bounds) : Type 0 where
+    pub lower : AllowedInOrder bounds.lower.now
+    pub lower_long : places_by c ≤ length bounds.lower.now
+    pub upper_long : places_by c ≤ length bounds.upper.now
+
   -- The sink at the far end of place p has the capacitance l.
   abbrev pub SinkAt : ℕ → ℕ → Type 0
   SinkAt p l = (l ≡ (placed_by c b).sink p) × (l ≤ 100000)
@@ -30,14 +43,6 @@ module _ (c : Counts) (b : List ℕ) where
   -- Place p may have the index k, and the load l that it drives is in the limits.
   abbrev pub DriveInLimits : ℕ → ℕ → ℕ → Type 0
   DriveInLimits p k l = (p < places_by c) × (k ≤ (net_by c b).highest p) × (l ≤ 13700000)
-
-  -- Where the table of place p's layer starts; a driver has no layer, and its byte there is zero.
-  abbrev pub rows_at : ℕ → ℕ
-  rows_at p = first_row c (byte b (place_at c p + 15))
-
-  -- The length of place p is l; a driver has none, and its range or zeros in that place.
-  abbrev pub LengthAt : ℕ → ℕ → Type 0
-  LengthAt p l = (l ≡ word b (place_at c p + 4)) × (l < 2 ^ 32)
 
   -- Place p may have the index k, and has the weight w.
   abbrev pub IndexAndWeight : ℕ → ℕ → ℕ → Type 0
@@ -47,6 +52,13 @@ module _ (c : Counts) (b : List ℕ) where
   abbrev pub SlopeAt : ℕ → ℕ → ℕ → Type 0
   SlopeAt p k r = (r ≡ slope (placed_by c b) p k) × (r ≤ 6528000000)
 
+  -- s is what the steps of place p need, where it has the weight w and the resistance u upstream.
+  pub record SpotOf (w u p : ℕ) (s : Spot) : Type 0 where
+    pub place : s.place ≡ p
+    pub table : TableOf c b p s.table
+    pub weight : s.weight ≡ w
+    pub before : s.before.0 ≡ u
+
   -- Place p may have the index k, and its weight w, the resistance u upstream and the load l that it drives are in the limits.
   abbrev pub StepInLimits : (w u p k l : ℕ) → Type 0
   StepInLimits w u p k l = (p < places_by c) × (k ≤ (net_by c b).highest p) × (w ≤ 32640) × (u ≤ 496128000000) × (l ≤ 13700000)
@@ -55,32 +67,33 @@ module _ (c : Counts) (b : List ℕ) where
   abbrev pub Stepped : (w u p k l : ℕ) → PlaceStep → Type 0
   Stepped w u p k l r = StepOf (placed_by c b) w u p k l r
 
+  -- The same limits for a step of a wire.
+  abbrev pub WireInLimits : (w u p k l : ℕ) → Type 0
+  WireInLimits w u p k l = (driver_at c p ≡ false) × StepInLimits w u p k l
+
   module _ (lower upper : List ℕ) where
     -- `driven` has what the places drive where the free ones show no load.
-    abbrev pub Driven : List ℕ → Type 0
-    Driven driven = DrivenFrom (driving_by c b) lower upper 0 driven
+    abbrev pub Driven : List Capacitance → Type 0
+    Driven driven = DrivenFrom (driving_by c b) lower upper 0 (loads driven)
 
     -- What all held places add to the delay.
-    abbrev pub fixed_delay : List ℕ → ℕ
-    fixed_delay driven = fixed_from (driving_by c b) lower upper driven 0
+    abbrev pub fixed_delay : List Capacitance → ℕ
+    fixed_delay driven = fixed_from (driving_by c b) lower upper (loads driven) 0
 
     -- What the delay grows by with each unit of load behind place a, and with each that place p shows.
-    abbrev pub onward_from : List ℕ → ℕ → ℕ
-    onward_from upstream a = onward (driving_by c b) lower upper upstream a
+    abbrev pub onward_from : List Resistance → ℕ → ℕ
+    onward_from upstream a = onward (driving_by c b) lower upper (resistances upstream) a
 
-    abbrev pub upstream_of : List ℕ → ℕ → ℕ
+    abbrev pub upstream_of : List Resistance → ℕ → ℕ
     upstream_of upstream p = before (onward_from upstream) ((driving_by c b).hangs_at p)
 
     -- `upstream` has that of the first n places.
-    abbrev pub Upstream : ℕ → List ℕ → Type 0
-    Upstream n upstream = UpstreamTo (driving_by c b) lower upper n upstream
+    abbrev pub Upstream : ℕ → List Resistance → Type 0
+    Upstream n upstream = UpstreamTo (driving_by c b) lower upper n (resistances upstream)
 
--- The same limits for a step of a driver to the size k, and of segment i to the width k of its layer.
+-- The same limits for a step of a driver to the size k.
 abbrev pub DriverInLimits : Counts → (w u k l : ℕ) → Type 0
 DriverInLimits c w u k l = (k < c.sizes) × (w ≤ 32640) × (u ≤ 496128000000) × (l ≤ 13700000)
-
-abbrev pub SegmentInLimits : Counts → List ℕ → (w u i k l : ℕ) → Type 0
-SegmentInLimits c b w u i k l = (i < c.segments) × (k < widths_of c (segment_layer c b i)) × (w ≤ 32640) × (u ≤ 496128000000) × (l ≤ 13700000)
 
 -- A resistance u upstream, a weighted delay d and a load l in the limits.
 abbrev pub ChargeInLimits : (u d l : ℕ) → Type 0

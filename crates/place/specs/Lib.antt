@@ -1,3 +1,4 @@
+pub mod Figures
 pub mod Partial
 pub mod Held
 pub mod ByCounts
