@@ -1,4 +1,3 @@
-pub mod Entries
 pub mod Filling
 pub mod Passing
 pub mod Walking

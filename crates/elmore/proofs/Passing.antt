@@ -1,6 +1,8 @@
 -- The siblings that a walk over the branches at a node has passed: that each sum is below 2 ^ 63, and that it is what the definitions say.
 use mathlib.Core.Path.{◌≡◌, refl, sym, ap, ◌∙◌}
 use mathlib.Core.Bool.{Bool, true, false}
+use mathlib.Core.HLevel.{⊥_prop}
+use mathlib.Core.Logic.{∥∥₁_elim}
 use mathlib.Core.List.{List}
 use Prim.Native.Nat.{ℕ, zero, suc, ◌+◌, ◌-◌, ◌≤◌, ◌<◌}
 use native.Mathlib.Nat.{zero-add, add-zero, add-suc, suc-add}
@@ -19,17 +21,18 @@ use Rattle.links.specs.Links.{First, siblings}
 use Rattle.links.proofs.Siblings.{siblings-none, siblings-branches, siblings-step}
 use Rattle.parts.specs.declared.Part.{Part}
 use Rattle.stages.specs.Ready.{Ready}
-use Rattle.parts.specs.Step.{Empty, RoomJoined, Joined}
+use Rattle.parts.specs.Entries.{nothing}
+use Rattle.parts.specs.Step.{RoomJoined, Joined}
 use Rattle.parts.proofs.Tallies.{inside-small, bare-hanging}
 use Rattle.parts.specs.Tally.{branches_of, branch_of, weight_with, load_with, delay_with, Tally, Hanging}
 
 -- past the last segment
-pub none-tally : {net : Net} {x : List ℕ} (j : ℕ) → j ≡ net.segments → (r : Part) → Empty r → Tally net x siblings j r
-none-tally {net} {x} j e r n =
+none-tally : {net : Net} {x : List ℕ} (j : ℕ) → j ≡ net.segments → Tally net x siblings j nothing
+none-tally {net} {x} j e =
     record {
-      weight = n.weight ∙ sym (siblings-none net (weight_with net x) j e);
-      load = n.load ∙ sym (siblings-none net (load_with net x) j e);
-      delay = n.delay ∙ sym (siblings-none net (delay_with net x) j e);
+      weight = sym (siblings-none net (weight_with net x) j e);
+      load = sym (siblings-none net (load_with net x) j e);
+      delay = sym (siblings-none net (delay_with net x) j e);
     }
 
 -- r is counted up over the siblings from j on that stand before i: with those from i on it is all of them.
@@ -41,15 +44,8 @@ pub record Passed (net : Net) (x : List ℕ) (j i : ℕ) (r : Part) : Type 0 whe
   pub delay : r.delay.0 + siblings net (delay_with net x) i ≡ siblings net (delay_with net x) j
 
 -- at first none is passed
-pub passed_none : {net : Net} {x : List ℕ} (j : ℕ) → j ≤ net.segments → (r : Part) → Empty r → Passed net x j j r
-passed_none {net} {x} j h r n =
-    record {
-      from = omega arith;
-      within = h;
-      weight = omega (arith, n.weight);
-      load = omega (arith, n.load);
-      delay = omega (arith, n.delay);
-    }
+pub passed_none : {net : Net} {x : List ℕ} (j : ℕ) → j ≤ net.segments → Passed net x j j nothing
+passed_none j h = record { from = omega arith; within = h; weight = omega arith; load = omega arith; delay = omega arith }
 
 -- past the last segment all are passed
 pub passed-all : {net : Net} {x : List ℕ} (j i : ℕ) → net.segments ≤ i → (r : Part) → Passed net x j i r → Tally net x siblings j r
@@ -96,11 +92,11 @@ module _ {c : Counts} {job x : List ℕ} (ready : Ready c job x) where
       let k = forest-later net.parent has j (net.segments - j) (net.parent j) 0 in
       rw (branches-are net o.parents has (net.parent j) (omega (arith, o.parents j m))) (rw (e, add-zero j) at k)
 
-  module _ (i child : ℕ) (h : i < net.segments) (first : First net (i + 1) 0 child) (u : Part) (v : Tally net x siblings child u) where
-    pub below-tally : Tally net x branches_of (suc i) u
-    below-tally = rw add-one at (node-tally (i + 1) child u (omega arith) first v)
+  module _ (i child : ℕ) (h : i < net.segments) (first : First net (i + 1) 0 child) where
+    pub below-tally : (u : Part) → Tally net x siblings child u → Tally net x branches_of (suc i) u
+    below-tally u v = rw add-one at (node-tally (i + 1) child u (omega arith) first v)
 
-    -- a segment without branches has no repeater
+    -- a segment without branches has no repeater, and nothing hangs there
     leaf-none : child ≡ net.segments → repeated net i ≡ false
     leaf-none e = go (repeated net i) refl
       where
@@ -108,11 +104,11 @@ module _ {c : Counts} {job x : List ℕ} (ready : Ready c job x) where
         go false f = refl
         go true f =
             let k = repeated-one net i f in
-            let b = ready.checked.branched k.0 k.1 in
-            absurd (first.none b.0 (omega arith) (omega (arith, b.1)) (b.2 ∙ ap suc k.2 ∙ sym (add-one i)))
+            absurd (∥∥₁_elim (ready.checked.branched k.0 k.1) ⊥_prop
+            (λ b. first.none b.0 (omega arith) (omega (arith, b.1)) (b.2 ∙ ap suc k.2 ∙ sym (add-one i))))
 
-    pub leaf-hanging : child ≡ net.segments → Hanging net x i u
-    leaf-hanging e = bare-hanging ready i u (leaf-none e) below-tally
+    pub leaf-hanging : child ≡ net.segments → Hanging net x i nothing
+    leaf-hanging e = bare-hanging ready i nothing (leaf-none e) (below-tally nothing (none-tally child e))
 
   -- one more sibling: i joins what is passed, and k is the next
   module _ (j i k : ℕ) (h : i < net.segments) (f : First net (net.parent i) (suc i) k) (b d : Part) (p : Passed net x j i b) (t : Tally net x branch_of i d) where
