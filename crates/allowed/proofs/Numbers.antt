@@ -1,6 +1,6 @@
 -- The number of a sizing by cases, and what a sizing that passes has.
 use mathlib.Core.Path.{◌≡◌}
-use mathlib.Core.Bool.{true, false}
+use mathlib.Core.Bool.{cond}
 use mathlib.Core.List.{List}
 use Prim.Native.Nat.{ℕ, ◌≤◌, ◌<◌}
 use borrow.Author.Tests.{le-leb, lt-leb}
@@ -18,13 +18,9 @@ module _ (net : Net) (x : List ℕ) where
   unfolding sizing_number first_no
   number_short h = rw (lt-leb (places net) (length x) h)
 
-  pub number-outside : places net ≤ length x → question16 net x ≡ false → sizing_number net x ≡ 16
+  pub number-long : places net ≤ length x → sizing_number net x ≡ cond (question16 net x) 0 16
   unfolding sizing_number first_no
-  number-outside h e = rw (le-leb (places net) (length x) h, e)
-
-  pub number-passes : places net ≤ length x → question16 net x ≡ true → sizing_number net x ≡ 0
-  unfolding sizing_number first_no
-  number-passes h e = rw (le-leb (places net) (length x) h, e)
+  number-long h = rw (le-leb (places net) (length x) h)
 
   -- a sizing that passes both questions has its indices in their ranges
   pub number-ranges : sizing_number net x ≡ 0 → InRanges net x
