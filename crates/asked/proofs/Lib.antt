@@ -1,3 +1,4 @@
 pub mod Branches
 pub mod Regroup
 pub mod Zeros
+pub mod OnRun

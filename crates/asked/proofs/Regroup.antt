@@ -17,9 +17,9 @@ use Rattle.net.specs.Questions.{in_range, question1, question24, question3, ques
 use Rattle.job.specs.Runs.{byte_of}
 use Rattle.runs.specs.Records.{byte_in_order, number_in_order, zero_bytes, byte_within, word_within, rows_in_order, range_within}
 use Rattle.segments.specs.Tests.{segment_fits}
-use Rattle.weight_records.specs.Tests.{segments_rise, unnamed_zero, weight_fits}
+use Rattle.weight_records.specs.Tests.{first_weight, segments_rise, unnamed_zero, weight_fits}
 use Rattle.net.proofs.Records.{layer-0, layer-1}
-use Rattle.asked.specs.Parts.{top_layer, repeaters_zero, first_weight}
+use Rattle.asked.specs.Parts.{top_layer, repeaters_zero}
 use Rattle.asked.proofs.Zeros.{zero_word, zero-words, zero-behind, weight-zero}
 use Rattle.lattice.proofs.Every.{every-and, every-same}
 
@@ -94,7 +94,7 @@ both-layers f p q e g = rw (sym e, sym g) (swapped p q)
     swapped false false = refl
 
 module _ (c : Counts) (b : List ℕ) where
-  pub question24-by : (t : ℕ) {p q : Bool} → t ≡ top_layer c → p ≡ every c.widths (byte_within b 0 2 0 1) && every (c.widths - 1) (byte_in_order b 2)
+  pub question24-by : (t : ℕ) {p q : Bool} → t ≡ top_layer c → p ≡ every c.widths (byte_within b 0 2 0 1) && every (c.widths - 1) (byte_in_order b 0 2)
       → q ≡ every c.segments (byte_within b (c.widths + c.sizes + c.stages) 15 0 t) → p && q ≡ question24 c b
   unfolding question24
   question24-by t d e f =
@@ -170,7 +170,7 @@ module _ (c : Counts) (b : List ℕ) where
   question23-by d = d ∙ every-same _ _ _ (λ k l. rw (repeater-at c k))
 
   pub question20-by : {n : ℕ} {p : Bool} → n ≡ weight_records b
-      → p ≡ every n (weight_fits b (c.widths + c.sizes + c.stages) c.segments (first_weight c)) → p ≡ question20 c b
+      → p ≡ every n (weight_fits c b) → p ≡ question20 c b
   unfolding question20
   question20-by a d = d ∙ rw a (every-same _ _ _ (λ k l. rw (weight-at c k, add_assoc (c.widths + c.sizes) c.stages (weight_segment c b k))
       (and_assoc (ltb (weight_segment c b k) c.segments) (not (eqb (segment_sink c b (weight_segment c b k)) 0)) (leb (weight_form c b k) 2 && (not (eqb (weight_form c b k) 1) || leb (weight_whole c b k) 255)))))

@@ -1,11 +1,10 @@
 -- What the contracts of single questions ask of a job and its tables, and parts of a question.
-use Rattle.std.specs.Prelude.{Bool, cond, List, ℕ, ◌+◌, ◌^◌, ◌≤◌, ◌<◌, ltb, length, get_or}
+use Rattle.std.specs.Prelude.{Bool, cond, List, ℕ, ◌+◌, ◌≤◌, ◌<◌, ltb, length, get_or}
 use Rattle.lattice.specs.Lists.{every}
 use Rattle.net.specs.declared.Counts.{Counts}
-use Rattle.net.specs.Job.{places_by, widths_of, repeater_at}
+use Rattle.net.specs.Job.{widths_of, repeater_at}
 use Rattle.net.specs.Net.{Net}
 use Rattle.net.specs.Questions.{zeros}
-use Rattle.net.specs.Checked.{Held}
 use Rattle.links.specs.Links.{First}
 
 -- The highest layer that has widths.
@@ -15,19 +14,6 @@ top_layer c = cond (ltb 0 (widths_of c 1)) 1 0
 -- Are the unnamed bytes of the repeaters zero?
 abbrev pub repeaters_zero : Counts → List ℕ → Bool
 repeaters_zero c b = every c.repeaters (λ r. zeros c b (repeater_at c r + 5) 11)
-
--- Where among all records the weight records start.
-abbrev pub first_weight : Counts → ℕ
-first_weight c = c.widths + c.sizes + places_by c
-
--- The counts are those of a job that a machine can hold.
-abbrev pub CountsFit : Counts → Type 0
-CountsFit c = first_weight c < 2 ^ 63
-
--- The records that are counted are there, and at least one stage.
-pub record Counted (c : Counts) (b : List ℕ) : Type 0 where
-  pub held : Held c b
-  pub some_stage : 1 ≤ c.stages
 
 -- `first` has the first segment at each node.
 pub record Firsts (net : Net) (first : List ℕ) : Type 0 where

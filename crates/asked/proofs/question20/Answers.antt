@@ -3,4 +3,4 @@ use Rattle.asked.proofs.Regroup.{question20-by}
 use Rattle.asked.proofs.question20.Goals as goal
 
 pub returns : goal.returns
-returns c = question20-by _ _ c.requires.weights_held.counted (rw c.first_weight-start.ensures at c.weights_fit.ensures)
+returns c = question20-by _ _ c.args.records.now.weights_held.counted c.weights_fit.ensures

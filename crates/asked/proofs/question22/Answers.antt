@@ -3,4 +3,4 @@ use Rattle.asked.proofs.Branches.{question22-by}
 use Rattle.asked.proofs.question22.Goals as goal
 
 pub returns : goal.returns
-returns c = question22-by _ _ _ c.requires.firsts c.repeaters_sited.ensures
+returns c = question22-by _ _ _ c.requires (cc)

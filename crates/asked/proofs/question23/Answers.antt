@@ -3,4 +3,4 @@ use Rattle.asked.proofs.Regroup.{question23-by}
 use Rattle.asked.proofs.question23.Goals as goal
 
 pub returns : goal.returns
-returns c = question23-by _ _ c.ranges_within.ensures
+returns c = question23-by _ _ (cc)

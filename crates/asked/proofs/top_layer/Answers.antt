@@ -5,5 +5,5 @@ use Rattle.asked.proofs.top_layer.Goals as goal
 pub returns-then-counts : goal.returns-then-counts
 returns-then-counts c = top-1 _ c.if-counts.true
 
-pub returns : goal.returns
-returns c = top-0 _ c.if-counts.false
+pub returns-else-counts : goal.returns-else-counts
+returns-else-counts c = top-0 _ c.if-counts.false
