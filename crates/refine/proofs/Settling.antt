@@ -1,8 +1,9 @@
 -- The cheapest indices at a place, by its position, are the best: what a place costs changes with its index as the delay of the whole net does.
-use mathlib.Core.Path.{◌≡◌, sym, ap, ◌∙◌}
+use mathlib.Core.Path.{◌≡◌, refl, sym, ap, ◌∙◌}
+use mathlib.Core.Bool.{Bool, true, false}
 use mathlib.Core.Logic.{◌↔◌}
 use mathlib.Core.List.{List}
-use Prim.Native.Nat.{ℕ, suc, ◌+◌, ◌^◌, ◌≤◌, ◌<◌}
+use Prim.Native.Nat.{ℕ, suc, ◌+◌, ◌-◌, ◌^◌, ◌≤◌, ◌<◌}
 use native.Mathlib.Omega.{arith}
 use borrow.Author.Tests.{le-ltb}
 use lib.ListN.{set}
@@ -14,17 +15,33 @@ use Rattle.lattice.specs.Cheapest.{Cheapest}
 use Rattle.lattice.proofs.Boxes.{boxed-set}
 use Rattle.lattice.proofs.Scan.{Scanned, cheapest-best}
 use Rattle.net.specs.declared.Counts.{Counts}
+use Rattle.net.specs.Job.{places_by, segment_layer}
 use Rattle.net.specs.Net.{net_by}
+use Rattle.net.specs.Checked.{Checked}
 use Rattle.net.specs.Driving as driving
 use Rattle.net.specs.Driving.{Driving, allowed_by, delay_at, load_at, driven_load, delay_by, cost, Placed, InLimits}
 use Rattle.net.specs.Order.{order, placed_by, driving_by}
 use Rattle.net.proofs.InOrder.{allowed-by, driving-lattice}
 use Rattle.net.proofs.Held.{before_same}
 use Rattle.net.proofs.OnePosition.{traded}
+use Rattle.job.specs.Ranges.{driver_at}
+use Rattle.job.proofs.Ranges.{wire-range}
+use Rattle.place.proofs.Steps.{size-fits}
 use Rattle.place.specs.Held.{UpstreamTo}
 use Rattle.place.proofs.Upstream.{upstream-most}
 use Rattle.refine.specs.declared.Ends.{Ends}
 use Rattle.refine.specs.Settled.{end_from, Settled, EndsAt}
+
+-- the highest index that a place may have is one of a table
+pub index-few : {c : Counts} {b : List ℕ} → Checked c b → (p : ℕ) → p < places_by c → (net_by c b).highest p < 16
+index-few {c} {b} checked p h = go (driver_at c p) refl
+  where
+    go : (d : Bool) → driver_at c p ≡ d → (net_by c b).highest p < 16
+    go true e = omega (arith, (size-fits checked p ((net_by c b).highest p) e h (omega arith)).there, checked.few_sizes)
+    go false e =
+        let w = wire-range c p e in
+        let q : c.stages + (p - c.stages) ≡ p = omega arith in
+        omega (arith, rw q at (checked.wired (p - c.stages) (omega arith)), checked.few_widths (segment_layer c b (p - c.stages)))
 
 -- the ends that a loop over all indices of a place has found
 pub scanned-settled : (net : Driving) (w u p d : ℕ) (r : Ends) (k : ℕ) → Scanned (net.lowest p) (cost net w u p d) k r.lowest r.highest r.cost.0
