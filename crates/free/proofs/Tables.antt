@@ -53,8 +53,8 @@ module _ (net : Driving) (lower upper : List ℕ) where
 
 module _ (lower upper : List ℕ) where
   -- how many places there are up to the last free one
-  pub skips-start : (skips : List ℕ) → 0 < length skips → SkipsTo lower upper 0 (set skips 0 0)
-  skips-start skips h = record { none = get_or-set_same skips 0 0 0 h; held = λ q l. absurd (omega arith) }
+  pub skips-none : (skips : List ℕ) → at skips 0 ≡ 0 → SkipsTo lower upper 0 skips
+  skips-none skips e = record { none = e; held = λ q l. absurd (omega arith) }
 
   pub skips-step : (skips : List ℕ) (p v : ℕ) → p + 1 < length skips → SkipsTo lower upper p skips → v ≡ cond (free lower upper p) (p + 1) (at skips p)
       → SkipsTo lower upper (p + 1) (set skips (p + 1) v)

@@ -1,5 +1,5 @@
 -- What the search asks of its tables and its state, and what it leaves: cited by the contracts of this crate.
-use Rattle.std.specs.Prelude.{◌≡◌, true, false, cond, List, ℕ, suc, ◌+◌, ◌*◌, ◌-◌, ◌^◌, ◌≤◌, ◌<◌, length}
+use Rattle.std.specs.Prelude.{◌≡◌, false, cond, Option, Some, None, List, ℕ, suc, ◌+◌, ◌*◌, ◌^◌, ◌≤◌, ◌<◌, length}
 use Rattle.lattice.specs.Lists.{at}
 use Rattle.lattice.specs.Space.{Allowed}
 use Rattle.lattice.specs.Search.{Found, takes, cover}
@@ -10,7 +10,7 @@ use Rattle.net.specs.Order.{placed_by, driving_by}
 use Rattle.net.specs.Checked.{Checked}
 use Rattle.positions.specs.Arranged.{PlacesInOrder}
 use Rattle.place.specs.Partial.{WeightsFrom}
-use Rattle.place.specs.ByCounts.{rows_at, LengthAt}
+use Rattle.place.specs.ByCounts.{SpotOf}
 use Rattle.place.specs.Held.{BeforeTo, sum_after, free, fixed_from, GatheredFrom, DrivenFrom, UpstreamTo}
 use Rattle.free.specs.declared.FreePlace.{FreePlace}
 
@@ -36,10 +36,8 @@ module _ (net : Driving) (lower upper : List ℕ) where
   abbrev pub priced_from : List ℕ → List ℕ → ℕ → ℕ
   priced_from upstream x p = sum_after net.places (λ q. cond (free lower upper q) (added_delay net x q + at upstream q * shown_load net x q) 0) p
 
--- Two allowed sizings in order, and the weights of the places: what a search goes between.
-pub record Bounds (c : Counts) (job weights lower upper : List ℕ) : Type 0 where
-  pub checked : Checked c job
-  pub weighed : WeightsFrom (driving_by c job) 0 weights
+-- Two allowed sizings in order: what a search goes between.
+pub record Between (c : Counts) (job lower upper : List ℕ) : Type 0 where
   pub lower_allowed : Allowed (allowed_by (driving_by c job)) lower
   pub upper_allowed : Allowed (allowed_by (driving_by c job)) upper
   pub in_order : (q : ℕ) → q < (driving_by c job).places → at lower q ≤ at upper q
@@ -83,14 +81,6 @@ pub record PassedTo (net : Driving) (w u p l added least low top k : ℕ) : Type
   pub within : k ≤ suc top
   pub above : (j : ℕ) → low ≤ j → j < k → least < added + cost net w u p l j
 
--- The place before `left` is free, and is the last one that is, or is not.
-module _ (lower upper skips : List ℕ) (left : ℕ) where
-  abbrev pub LastFree : Type 0
-  LastFree = (0 < left) × (free lower upper (left - 1) ≡ true) × (at skips (left - 1) ≡ 0)
-
-  abbrev pub MoreFree : Type 0
-  MoreFree = (0 < left) × (free lower upper (left - 1) ≡ true) × (0 < at skips (left - 1))
-
 -- Both bounds have an index for each place; `skips` is filled.
 module _ (c : Counts) (lower upper : List ℕ) where
   abbrev pub BothLong : Type 0
@@ -101,14 +91,15 @@ module _ (c : Counts) (lower upper : List ℕ) where
 
 -- r is the place at position t with what its steps need, as the tables have it.
 pub record FreePlaceAt (c : Counts) (job orders weights upstream loads lower upper : List ℕ) (t : ℕ) (r : FreePlace) : Type 0 where
-  pub place : r.place ≡ at orders t
-  pub rows : r.rows ≡ rows_at c job (at orders t)
-  pub length : LengthAt c job (at orders t) r.length
-  pub weight : r.weight ≡ at weights t
-  pub before : r.before.0 ≡ at upstream t
+  pub spot : SpotOf c job (at weights t) (at upstream t) (at orders t) r.spot
   pub driven : r.driven.0 ≡ at loads t
-  pub low : r.low ≡ at lower t
-  pub top : r.top ≡ at upper t
+  pub low : r.range.lowest ≡ at lower t
+  pub top : r.range.highest ≡ at upper t
+
+-- The index that is not passed over, and where there is none the one past `top`.
+abbrev pub first_of : ℕ → Option ℕ → ℕ
+first_of top (Some k) = k
+first_of top None = suc top
 
 -- What the contracts say of the net of a job, by the counts of its records and its bytes.
 module _ (c : Counts) (b : List ℕ) where
@@ -120,16 +111,6 @@ module _ (c : Counts) (b : List ℕ) where
   abbrev pub PassedBy : (w u p l added least low top k : ℕ) → Type 0
   PassedBy w u p l added least low top k = PassedTo (placed_by c b) w u p l added least low top k
 
-  -- The same at the position before `left`, by the tables.
-  abbrev pub PassedAt : (weights upstream driven lower upper : List ℕ) (left added : ℕ) (gathered : List ℕ) (least k : ℕ) → Type 0
-  PassedAt weights upstream driven lower upper left added gathered least k =
-      PassedTo (driving_by c b) (at weights (left - 1)) (at upstream (left - 1)) (left - 1) (at driven (left - 1) + at gathered (left - 1 + 1)) added least
-      (at lower (left - 1)) (at upper (left - 1)) k
-
-  abbrev pub SizedBy : (upstream driven ups lower upper : List ℕ) (left added : ℕ) (x gathered lean wide : List ℕ) → Type 0
-  SizedBy upstream driven ups lower upper left added x gathered lean wide =
-      Sized (driving_by c b) lower upper upstream driven ups left added x gathered lean wide
-
   module _ (lower upper : List ℕ) where
     -- The node at which a load at `node` arrives, and that of each place.
     abbrev pub arrives_at : List ℕ → ℕ → ℕ
@@ -137,9 +118,6 @@ module _ (c : Counts) (b : List ℕ) where
 
     abbrev pub Lifted : List ℕ → Type 0
     Lifted ups = UpsTo (driving_by c b) lower upper (places_by c) ups
-
-    abbrev pub SearchedFrom : (left : ℕ) (x gathered : List ℕ) (before : Found) (x' gathered' : List ℕ) (after : Found) → Type 0
-    SearchedFrom left x gathered before x' gathered' after = Searched (driving_by c b) lower upper left x gathered before x' gathered' after
 
     -- What is kept when every sizing between the bounds was taken.
     abbrev pub taken_between : Found → Found
