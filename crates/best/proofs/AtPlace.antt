@@ -2,6 +2,7 @@
 use mathlib.Core.Path.{◌≡◌, sym, ap, ◌∙◌}
 use mathlib.Core.List.{List}
 use Prim.Native.Nat.{ℕ, suc, ◌+◌, ◌*◌, ◌-◌, ◌≤◌, ◌<◌}
+use native.Mathlib.Numerals.{add-one}
 use native.Mathlib.Omega.{arith}
 use borrow.Author.Tests.{lt-ltb, le-ltb}
 use Rattle.net.specs.declared.Counts.{Counts}
@@ -21,13 +22,8 @@ use Rattle.parts.specs.declared.Part.{Part}
 use Rattle.parts.specs.Entries.{part_at}
 use Rattle.parts.specs.Tally.{branches_of, Tally, Hanging}
 use Rattle.nodes.specs.Counted.{Counted}
-use Rattle.best.specs.Around.{WeightsCounted, DrivenAt}
+use Rattle.best.specs.Around.{DrivenAt}
 use Rattle.best.proofs.ByPosition.{nu}
-
--- The branches at a node, as they are read from the table.
-pub tally-there : {net : Net} {x nodes : List ℕ} → Counted net x nodes → (part : Part) (q r : ℕ) → q ≡ r → r ≤ net.segments → part ≡ part_at nodes q
-    → Tally net x branches_of r part
-tally-there t part q r f h e = rw (e, f) (t.held r h)
 
 module _ {c : Counts} {b : List ℕ} (k : Checked c b) where
   abbrev net : Net
@@ -42,32 +38,31 @@ module _ {c : Counts} {b : List ℕ} (k : Checked c b) where
     site-few = omega (arith, site-is, k.sites (p - (c.stages + c.segments)) (omega arith))
 
   -- The weight of a place.
-  module _ {nodes : List ℕ} (w : WeightsCounted net nodes) (p : ℕ) (part : Part) where
-    weight-there : (q : ℕ) → q ≤ c.segments → part ≡ part_at nodes q → part.weight ≡ branches net net.weight q
-    weight-there q h e = ap (λ z. z.weight) e ∙ w.held q h
+  module _ {x : List ℕ} {nodes : List Part} (w : Counted net x nodes) (p : ℕ) where
+    weight-there : (q : ℕ) → q ≤ c.segments → (part_at nodes q).weight ≡ branches net net.weight q
+    weight-there q h = (w.held q h).weight
 
-    pub stage-weight : p < c.stages → part ≡ part_at nodes 0 → 2 * part.weight ≡ (placed_by c b).weight p
+    pub stage-weight : p < c.stages → 2 * (part_at nodes 0).weight ≡ (placed_by c b).weight p
     unfolding of_kind total_weight
-    stage-weight h e =
-        rw (lt-ltb p c.stages h) (omega (arith, weight-there 0 (omega arith) e, branches-whole net (ordered k).parents net.weight))
+    stage-weight h =
+        rw (lt-ltb p c.stages h) (omega (arith, weight-there 0 (omega arith), branches-whole net (ordered k).parents net.weight))
 
-    pub segment-weight : c.stages ≤ p → p - c.stages < c.segments → part ≡ part_at nodes (p - c.stages + 1)
-        → (v : ℕ) → v ≡ net.weight (p - c.stages) → v + part.weight ≡ (placed_by c b).weight p
+    pub segment-weight : c.stages ≤ p → p - c.stages < c.segments → (v : ℕ) → v ≡ net.weight (p - c.stages)
+        → v + (part_at nodes (p - c.stages + 1)).weight ≡ (placed_by c b).weight p
     unfolding of_kind weight_below
-    segment-weight h m e v f =
+    segment-weight h m v f =
         let n : p < c.stages + c.segments = omega arith in
-        rw (le-ltb p c.stages h, lt-ltb p (c.stages + c.segments) n)
-        (omega (arith, f, weight-there (suc (p - c.stages)) m (e ∙ ap (part_at nodes) (omega arith))))
+        rw (le-ltb p c.stages h, lt-ltb p (c.stages + c.segments) n, add-one (p - c.stages)) (omega (arith, f, weight-there (suc (p - c.stages)) m))
 
     pub repeater-weight : p < places_by c → c.stages + c.segments ≤ p → (s : ℕ) → s ≡ net.site (p - c.stages - c.segments)
-        → part ≡ part_at nodes (s + 1) → 2 * part.weight ≡ (placed_by c b).weight p
+        → 2 * (part_at nodes (s + 1)).weight ≡ (placed_by c b).weight p
     unfolding of_kind weight_behind
-    repeater-weight few h s f e =
+    repeater-weight few h s f =
         let m : c.stages ≤ p = omega arith in
         let r = p - (c.stages + c.segments) in
         let n : s + 1 ≡ suc (net.site r) = omega (arith, site-is p few h s f) in
-        rw (le-ltb p c.stages m, le-ltb p (c.stages + c.segments) h)
-        (omega (arith, weight-there (suc (net.site r)) (omega (arith, n, site-few p few h s f)) (e ∙ ap (part_at nodes) n)))
+        rw (le-ltb p c.stages m, le-ltb p (c.stages + c.segments) h, n)
+        (omega (arith, weight-there (suc (net.site r)) (omega (arith, n, site-few p few h s f))))
 
   -- The load that a place drives.
   module _ (x : List ℕ) (p : ℕ) (few : p < places_by c) where

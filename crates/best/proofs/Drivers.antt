@@ -4,6 +4,7 @@ use mathlib.Core.Bool.{Bool, true, false}
 use mathlib.Core.List.{List}
 use Prim.Native.Nat.{ℕ, suc, ◌+◌, ◌-◌, ◌≤◌, ◌<◌}
 use native.Mathlib.Omega.{arith}
+use Rattle.std.specs.Prelude.{Option, Some, None, get_or}
 use Rattle.lattice.specs.Lists.{at}
 use Rattle.net.specs.declared.Counts.{Counts}
 use Rattle.net.specs.Job.{places_by}
@@ -13,11 +14,11 @@ use Rattle.net.specs.Driving.{slope}
 use Rattle.net.specs.Order.{places_before, position, order, by_position, placed_by, driving_by}
 use Rattle.net.proofs.Order.{before-first, before-next, before-behind, position-stage, position-segment, position-repeater}
 use Rattle.net.proofs.Places.{of-stage, of-segment, of-repeater}
-use Rattle.net.proofs.Questions.{ordered, limited}
+use Rattle.net.proofs.Questions.{ordered}
 use Rattle.net.proofs.InOrder.{placed, in_limits}
 use Rattle.job.specs.Ranges.{driver_at}
 use Rattle.parts.specs.Seats.{Seated}
-use Rattle.parts.proofs.Seating.{seat-site, seat-none}
+use Rattle.parts.proofs.Seating.{seat-none}
 use Rattle.place.proofs.Steps.{slope-same, driver-same}
 use Rattle.best.specs.Around.{Drives, UpstreamOf}
 use Rattle.best.proofs.ByPosition.{nu, allowed-by-position, own-index}
@@ -79,17 +80,17 @@ module _ {c : Counts} {b : List ℕ} (k : Checked c b) where
         far-end : hangs p ≡ places_before net (suc (node - 1))
         far-end = segment-hangs ∙ ap (places_before net) (omega (arith, n))
 
-        module _ {seats : List ℕ} (s : Seated net seats) (r : ℕ) (f : r ≡ at seats (node - 1)) where
-          pub drives-repeated : r < 8 → Drives c b p (c.stages + c.segments + r)
-          drives-repeated g =
-              let z = seat-site net s (node - 1) r parent-inside f g in
+        module _ {seats : List (Option ℕ)} (s : Seated net seats) where
+          pub drives-repeated : (r : ℕ) → get_or seats (node - 1) None ≡ Some r → Drives c b p (c.stages + c.segments + r)
+          drives-repeated r g =
+              let z = s.only (node - 1) r parent-inside g in
               let y = before-behind net (ordered k).sites (ordered k).rising r z.0 in
               let x = far-end ∙ sym (ap (λ i. places_before net (suc i)) z.1) in
               (omega (arith, z.0), omega (arith, repeater-at r, y, x))
 
-          pub drives-wire : 8 ≤ r → Drives c b p (c.stages + (node - 1))
+          pub drives-wire : get_or seats (node - 1) None ≡ None → Drives c b p (c.stages + (node - 1))
           drives-wire g =
-              let z = before-next net (node - 1) (seat-none net (limited k) s (node - 1) (omega (arith, f, g))) in
+              let z = before-next net (node - 1) (seat-none net s (node - 1) g) in
               (omega (arith, parent-inside), omega (arith, segment-at (node - 1) parent-inside, z, far-end))
 
   -- along the path upstream of place p of an allowed sizing x

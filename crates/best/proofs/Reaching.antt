@@ -19,10 +19,8 @@ use Rattle.net.specs.Checked.{Checked, AllowedBy}
 use Rattle.net.specs.Driving.{Driving, allowed_by, cost, delay_by}
 use Rattle.net.specs.Order.{position, order, by_position, driving, placed_by, driving_by}
 use Rattle.net.proofs.Positions.{delay-by-position, driving-moved}
-use Rattle.net.proofs.Questions.{ordered, allowed-long, allowed-ranges}
+use Rattle.net.proofs.Questions.{ordered, allowed-long}
 use Rattle.net.proofs.InOrder.{allowed-by, placed, in_limits, driving-lattice}
-use Rattle.stages.specs.Ready.{Ready}
-use Rattle.nodes.specs.Counted.{Counted}
 use Rattle.place.specs.Held.{UpstreamTo}
 use Rattle.place.specs.ByCounts.{AllowedInOrder}
 use Rattle.quantity.specs.declared.Delay.{Delay}
@@ -32,16 +30,9 @@ use Rattle.place.proofs.Steps.{cost-same}
 use Rattle.refine.proofs.Settling.{settled-by-place, figures-small, settled-ends, settled-reaches}
 use Rattle.best.specs.declared.EndsAndDelay.{EndsAndDelay}
 use Rattle.best.specs.Reached.{ReachedAt, ReachedBy}
-use Rattle.best.specs.Around.{WeightsCounted, UpstreamOf, DrivenAt}
+use Rattle.best.specs.Around.{UpstreamOf, DrivenAt}
 use Rattle.best.proofs.ByPosition.{nu, allowed-by-position, own-index}
 use Rattle.best.proofs.Path.{some-upstream}
-
--- What the pass over the tree asks and gives.
-pub ready : {c : Counts} {b : List ℕ} → Checked c b → (x : List ℕ) → AllowedBy c b x → Ready c b x
-ready {c} {b} k x a = record { checked = k; in_ranges = allowed-ranges (net_by c b) x a }
-
-pub weights-counted : {net : Net} {x nodes : List ℕ} → Counted net x nodes → WeightsCounted net nodes
-weights-counted n = record { long = n.long; held = λ q h. (n.held q h).weight }
 
 -- What is reached at the position of a place is what is reached at the place: best indices and delays do not depend on how places are numbered.
 reached-by-place : {c : Counts} {b : List ℕ} (k : Checked c b) (x : List ℕ) → AllowedBy c b x → (p : ℕ) (r : EndsAndDelay) → p < places_by c

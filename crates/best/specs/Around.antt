@@ -1,19 +1,12 @@
 -- What surrounds a place in a sizing, as settling the place asks: cited by the contracts of this crate.
-use Rattle.std.specs.Prelude.{◌≡◌, List, ℕ, suc, ◌+◌, ◌≤◌, ◌<◌, length}
+use Rattle.std.specs.Prelude.{◌≡◌, List, ℕ, suc, ◌<◌}
 use Rattle.lattice.specs.Lists.{at}
 use Rattle.net.specs.declared.Counts.{Counts}
 use Rattle.net.specs.Job.{places_by}
-use Rattle.net.specs.Net.{Net, net_by}
+use Rattle.net.specs.Net.{net_by}
 use Rattle.net.specs.Driving.{driven_load}
 use Rattle.net.specs.Order.{position, by_position, placed_by, driving_by}
-use Rattle.parts.specs.Entries.{part_at}
-use Rattle.parts.specs.Tally.{branches_of}
-use Rattle.place.specs.ByCounts.{Upstream}
-
--- `nodes` has the weight of the branches at each node.
-pub record WeightsCounted (net : Net) (nodes : List ℕ) : Type 0 where
-  pub long : length nodes ≡ 195
-  pub held : (q : ℕ) → q ≤ net.segments → (part_at nodes q).weight ≡ branches_of net (λ i w. net.weight i + w) q
+use Rattle.place.specs.Held.{UpstreamTo}
 
 module _ (c : Counts) (b : List ℕ) where
   -- Place a drives place p, which hangs directly behind it.
@@ -27,5 +20,5 @@ module _ (c : Counts) (b : List ℕ) where
   -- In the sizing x the resistance upstream of place p is r, in whatever table has it by position.
   abbrev pub UpstreamOf : List ℕ → ℕ → ℕ → Type 0
   UpstreamOf x p r =
-      (upstream : List ℕ) → Upstream c b (by_position (net_by c b) x) (by_position (net_by c b) x) (suc (position (net_by c b) p)) upstream
+      (upstream : List ℕ) → UpstreamTo (driving_by c b) (by_position (net_by c b) x) (by_position (net_by c b) x) (suc (position (net_by c b) p)) upstream
       → r ≡ at upstream (position (net_by c b) p)
