@@ -1,8 +1,8 @@
 -- The weights of the places, from the last position to the first: one position more.
-use mathlib.Core.Path.{◌≡◌, refl, sym, ap, ◌∙◌}
+use mathlib.Core.Path.{◌≡◌, refl, sym, ap, subst, ◌∙◌}
 use mathlib.Core.Logic.{◌⊎◌, inl, inr}
 use mathlib.Core.List.{List}
-use Prim.Native.Nat.{ℕ, suc, ◌+◌, ◌≤◌, ◌<◌}
+use Prim.Native.Nat.{ℕ, suc, ◌+◌, ◌-◌, ◌≤◌, ◌<◌}
 use native.Mathlib.Nat.{eq-or-lt_of_le, mul-le-mul_right}
 use native.Mathlib.Omega.{arith}
 use lib.ListN.{length, set, length-set}
@@ -18,6 +18,7 @@ use Rattle.net.proofs.Order.{numbering}
 use Rattle.net.proofs.Weights.{weight-behind}
 use Rattle.net.proofs.Questions.{ordered}
 use Rattle.net.proofs.InOrder.{placed, in_limits, checked-driven}
+use Rattle.positions.specs.declared.Arranged.{Arranged}
 use Rattle.place.specs.Partial.{WeightsFrom}
 use Rattle.place.specs.Held.{GatheredFrom}
 use Rattle.place.proofs.Gathering.{gathered-all, gathered-small, gathering-start, gathering-step}
@@ -83,3 +84,30 @@ module _ {c : Counts} {b : List ℕ} (k : Checked c b) where
         place : (q : ℕ) → q < places_by c → (t ≡ q) ⊎ (t < q) → at (set weights t v) q ≡ (driving_by c b).weight q
         place q m (inl z) = rw (← z) (get_or-set_same weights t v 0 (omega (arith, i.weighs.long)) ∙ f ∙ rw (a, driven-is w (e ∙ ap (sink_weight_at c b) a)))
         place q m (inr z) = get_or-set_other weights t q v 0 (λ n. omega arith) ∙ i.weighs.held q z m
+
+-- One turn of the loop, at the position n - 1 of arranged places, where n positions are left before it: w is the weight of the place's sink.
+module _ (a : Arranged) {n : ℕ} {weights gathered : List ℕ} (i : Weighing a.job.counts a.job.bytes.now n weights gathered) (some : 0 < n) (few : n ≤ places_by a.job.counts)
+    {w : ℕ} (e : w ≡ sink_weight_at a.job.counts a.job.bytes.now (at a.order (n - 1))) where
+  passed : Weighing a.job.counts a.job.bytes.now (suc (n - 1)) weights gathered
+  passed = let z : n ≡ suc (n - 1) = omega arith in subst (λ (m : ℕ). Weighing a.job.counts a.job.bytes.now m weights gathered) z i
+
+  by_position : w ≡ sink_weight_at a.job.counts a.job.bytes.now (order (net_by a.job.counts a.job.bytes.now) (n - 1))
+  by_position = e ∙ ap (sink_weight_at a.job.counts a.job.bytes.now) (a.in_order.held (n - 1) (omega arith))
+
+  pub turn-driven : w + at gathered (n - 1 + 1) ≤ 16575
+  turn-driven =
+      let z : n - 1 + 1 ≡ suc (n - 1) = omega arith in
+      rw z (driven-few a.job.checked (n - 1) (omega arith) weights gathered passed w by_position)
+
+  pub turn-gathered : at gathered (at a.hangs (n - 1)) ≤ 1259700
+  turn-gathered =
+      let node = a.nodes.held (n - 1) (omega arith) in
+      let falls = (placed a.job.checked).falls (n - 1) (omega arith) in
+      gathered-few a.job.checked (n - 1) (omega arith) weights gathered passed (at a.hangs (n - 1)) (omega arith)
+
+  pub turn-after : {v : ℕ} → v ≡ doubled a.job.counts (at a.order (n - 1)) (w + at gathered (n - 1 + 1))
+      → Weighing a.job.counts a.job.bytes.now (n - 1) (set weights (n - 1) v) (set gathered (at a.hangs (n - 1)) (at gathered (at a.hangs (n - 1)) + (w + at gathered (n - 1 + 1))))
+  turn-after f =
+      let z : n - 1 + 1 ≡ suc (n - 1) = omega arith in
+      let node = a.nodes.held (n - 1) (omega arith) in
+      rw (z, node) (weighing-step a.job.checked (n - 1) (omega arith) weights gathered passed _ _ _ _ (a.in_order.held (n - 1) (omega arith)) e (rw z at f) refl)
