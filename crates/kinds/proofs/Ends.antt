@@ -1,12 +1,12 @@
 -- Where the run of each kind of record ends: question 2 passes exactly where the runs of the six kinds, one behind another, cover all records, and
 -- then the count of a kind is the length of its run; all widths are in the first.
 use mathlib.Core.Path.{◌≡◌, ◌∙◌, refl, sym}
-use mathlib.Core.Bool.{Bool, true, false, not, ◌&&◌, true≢false}
+use mathlib.Core.Bool.{Bool, true, false, ◌&&◌, true≢false}
 use mathlib.Core.List.{List}
 use Prim.Native.Nat.{ℕ, suc, ◌-◌, ◌≤◌, ◌<◌}
 use native.Mathlib.Decide.{dec_le}
 use native.Mathlib.Omega.{arith}
-use borrow.Author.Tests.{not-false, ne_eqb, eq-eqb}
+use borrow.Author.Tests.{ne_eqb, eq-eqb}
 use lib.Dec.{T, leb, eqb, leb→le, le→leb}
 use Rattle.lattice.specs.Lists.{every}
 use Rattle.lattice.proofs.ListLaws.{is_true, and_T, T_and, every-at, at_every}
@@ -20,10 +20,10 @@ use Rattle.kinds.specs.Kinds.{Kinds, RunEnd, EndsOf}
 use Rattle.kinds.specs.Counted.{layer0_in, counts_to}
 
 -- What question 2 gives.
-pub kinds-known : (b : List ℕ) {r : Bool} → r ≡ question2 b → not r ≡ false → Kinds b (records b)
+pub kinds-known : (b : List ℕ) → question2 b ≡ true → Kinds b (records b)
 unfolding question2
-kinds-known b {r} e t =
-    let a = and_T (every (records b) (λ k. in_range 1 6 (kind b k))) (every (records b - 1) (λ k. leb (kind b k) (kind b (suc k)))) (rw (sym e ∙ not-false r t) tt) in
+kinds-known b e =
+    let a = and_T (every (records b) (λ k. in_range 1 6 (kind b k))) (every (records b - 1) (λ k. leb (kind b k) (kind b (suc k)))) (rw e tt) in
     record {
       known = λ k h. in-range 1 6 (kind b k) (every-at (records b) (λ k. in_range 1 6 (kind b k)) a.0 k h);
       order = never-falls (kind b) (records b) (λ k h. leb→le _ _ (every-at (records b - 1) (λ k. leb (kind b k) (kind b (suc k))) a.1 k h));
@@ -134,7 +134,7 @@ module _ {b : List ℕ} {n : ℕ} {r : RunEnds} (a : EndsOf b n r) where
   covers-all e = go (question2 b) refl
     where
       go : (p : Bool) → p ≡ question2 b → eqb r.weights n ≡ p
-      go true f = eq-eqb r.weights n (all-covered (rw (sym e) at (kinds-known b f refl)))
+      go true f = eq-eqb r.weights n (all-covered (rw (sym e) at (kinds-known b (sym f))))
       go false f = ne_eqb r.weights n (λ d. true≢false (kinds-pass b (rw (d ∙ e) at front-6.kinds) ∙ sym f))
 
   -- behind the widths there is none, so the widths of layer 0 are those among the first records

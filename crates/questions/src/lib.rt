@@ -1,196 +1,116 @@
 // Questions 1 to 11 and 20 to 24, in their order, asked of a job of any length, in time linear in it.
 #![tactic(auto)]
 
-ghost use Rattle.std.specs.Prelude.{◌≡◌, ◌<◌, ◌≤◌, length};
+ghost use Rattle.std.specs.Prelude.{◌≡◌, ◌<◌, ◌≤◌, length, IfOk, OnOk};
+ghost use Rattle.net.specs.Job.{records};
 ghost use Rattle.net.specs.Net.{net_by};
-ghost use Rattle.net.specs.Questions.{first_no};
-ghost use Rattle.net.specs.Checked.{Held, WeightsHeld, SinkWeights};
+ghost use Rattle.net.specs.Questions.{first_no, refusal};
+ghost use Rattle.net.specs.Checked.{SinkWeights};
+ghost use Rattle.refusal.specs.Numbers.{refusal_number};
 ghost use Rattle.sinks.specs.Loaded.{LoadedTo};
-ghost use Rattle.asked.specs.Parts.{Counted, Firsts};
-ghost use Rattle.questions.specs.Check.{CheckOf, Asked, questions_from20, questions_from22, questions_from10, questions_from7, questions_from24};
+ghost use Rattle.asked.specs.Parts.{Firsts};
+ghost use Rattle.questions.specs.Check.{CheckOf, PassedOf, questions_from24, questions_from22};
 
-use net::Counts;
+use job::{Job, Records};
+use links::Links;
+use refusal::{Refusal, require};
 
-// The number of the first question that a job fails, 0 where it passes all; the count of its records; and, where it passes all, their counts by
-// kind.
+// A job that passed all its questions, and the count of its records.
 #[derive(Clone, Copy)]
-pub struct Outcome {
-    pub number: usize,
+pub struct Passed<'a> {
+    pub job: Job<'a>,
     pub records: usize,
-    pub counts: Counts,
 }
 
-// The number of the first of questions 20 and 21 that a job of n weight records fails, 0 where it passes them. `weights` has each segment's own weight
-// byte before, and where the number is 0 the weight of each segment's sink afterwards: loading them asks question 21.
-fn questions_from_20(job: &[u8], counts: Counts, n: usize, weights: &mut [u8; 64]) -> usize
-    requires held { Held counts job.now × (counts.segments ≤ 64) }
-    requires weights_held { WeightsHeld counts job.now n }
-    requires loaded_to { LoadedTo counts job.now 0 weights.old }
-    ensures number { result ≡ first_no (questions_from20 counts job.now) }
-    ensures weights { result ≡ 0 → SinkWeights counts job.now weights.new }
+// The first question that a job fails, and the count of its records.
+#[derive(Clone, Copy)]
+pub struct Failed {
+    pub refusal: Refusal,
+    pub records: usize,
+}
+
+impl From<Failed> for Refusal {
+    ghost from_gives = { λ failed r. r ≡ failed.refusal };
+
+    fn from(failed: Failed) -> Refusal {
+        failed.refusal
+    }
+}
+
+// The questions that are asked before the segments are linked: 24 and 3 to 8.
+#[tactic(auto, using(crate::proofs::Numbers::yes, crate::proofs::Numbers::no, crate::proofs::Numbers::last), unfolding(crate::specs::Check::questions_from24))]
+fn questions_from_24(records: &Records<'_>) -> Result<(), Refusal>
+    ensures { refusal_number result ≡ first_no (questions_from24 records.now.counts records.now.bytes.now) }
 {
-    if !asked::question20(job, counts, n) {
-        return 20;
-    }
-    if !sinks::load(job, counts, n, weights) {
-        return 21;
-    }
-    0
+    require(asked::question24(records), Refusal::Layers)?;
+    require(asked::question3(records), Refusal::Counts)?;
+    require(asked::question4(records), Refusal::Numbers)?;
+    require(asked::question5(records), Refusal::UnnamedBytes)?;
+    require(asked::question6(records), Refusal::Values)?;
+    require(asked::question7(records), Refusal::Tables)?;
+    require(asked::question8(records), Refusal::StageRanges)
 }
 
-// The number of the first of questions 22, 23, 20 and 21 that a job of n weight records fails, 0 where it passes them. Of `weights` the same holds.
+// The questions that are asked last, of linked segments: 22, 23, 20 and 21. `weights` has each segment's own weight byte before, and where all are
+// passed the weight of each segment's sink afterwards: loading them asks question 21.
+#[tactic(auto, using(crate::proofs::Numbers::yes, crate::proofs::Numbers::no, crate::proofs::Numbers::last), unfolding(crate::specs::Check::questions_from22))]
 fn questions_from_22(
-    job: &[u8],
-    counts: Counts,
+    records: &Records<'_>,
     first: &[usize],
-    n: usize,
     weights: &mut [u8; 64],
-) -> usize
-    requires held { Held counts job.now × (counts.segments ≤ 64) }
-    requires firsts { Firsts (net_by counts job.now) first.now }
-    requires weights_held { WeightsHeld counts job.now n }
-    requires loaded_to { LoadedTo counts job.now 0 weights.old }
-    ensures number { result ≡ first_no (questions_from22 counts job.now) }
-    ensures weights { result ≡ 0 → SinkWeights counts job.now weights.new }
+) -> Result<(), Refusal>
+    requires few { records.now.counts.segments ≤ 64 }
+    requires firsts { Firsts (net_by records.now.counts records.now.bytes.now) first.now }
+    requires loaded_to { LoadedTo records.now.counts records.now.bytes.now 0 weights.old }
+    ensures number { refusal_number result ≡ first_no (questions_from22 records.now.counts records.now.bytes.now) }
+    ensures weights { OnOk result (SinkWeights records.now.counts records.now.bytes.now weights.new) }
 {
-    if !asked::question22(job, counts, first) {
-        return 22;
-    }
-    if !asked::question23(job, counts) {
-        return 23;
-    }
-    questions_from_20(job, counts, n, weights)
+    require(asked::question22(records, first), Refusal::RepeaterSites)?;
+    require(asked::question23(records), Refusal::RepeaterRanges)?;
+    require(asked::question20(records), Refusal::WeightRecords)?;
+    require(sinks::load(records, weights), Refusal::Fractions)
 }
 
-// The number of the first of questions 10, 11 and 20 to 23 that a job of n weight records fails, 0 where it passes them, and then `weights` has the
-// weight of each segment's sink. Question 10: are segment fields in range, capacitance and weight 0 where there is no sink, and lowest ≤ highest <
-// count of widths of its layer? A weight is a byte, so it is at most 255. Question 11: has every segment without branches a sink? One loop over the
-// segments asks both, and puts their weight bytes into the table.
-fn questions_from_10(
-    job: &[u8],
-    counts: Counts,
-    first: &[usize],
+// All questions of a job of n records, in their order. Where all are passed, the segments are linked and `weights` has the weight of each segment's
+// sink. Linking asks question 9, and one loop over the segments asks 10 and 11 and puts their weight bytes into the table.
+fn questions_from_1<'a>(
+    bytes: &'a [u8],
     n: usize,
+    links: &mut Links,
     weights: &mut [u8; 64],
-) -> usize
-    requires held { Held counts job.now × (counts.segments ≤ 64) }
-    requires firsts { Firsts (net_by counts job.now) first.now }
-    requires weights_held { WeightsHeld counts job.now n }
-    requires weights_len { length weights.old ≡ 64 }
-    ensures number { result ≡ first_no (questions_from10 counts job.now) }
-    ensures weights { result ≡ 0 → SinkWeights counts job.now weights.new }
+) -> Result<Job<'a>, Refusal>
+    requires { n ≡ records bytes.now }
+    ensures number { refusal_number result ≡ refusal bytes.now }
+    ensures passed { IfOk result (λ job. PassedOf bytes.now job links.new.first links.new.next weights.new) }
 {
-    let start = counts.widths + counts.sizes + counts.stages;
-    let tests = segments::segments_fit(job, counts, first, start, counts.segments, weights);
-    if !tests.fields {
-        return 10;
-    }
-    if !tests.ends {
-        return 11;
-    }
-    questions_from_22(job, counts, first, n, weights)
+    require(asked::question1(bytes, n), Refusal::Length)?;
+    let ends = kinds::find_ends(bytes, n);
+    require(asked::question2(bytes, n, ends), Refusal::Kinds)?;
+    let counts = kinds::count(bytes, n, ends);
+    let counted = Records {
+        bytes,
+        counts,
+        weights: n - ends.repeaters,
+    };
+    questions_from_24(&counted)?;
+    require(links::link(&counted, links), Refusal::Parents)?;
+    segments::segments_fit(&counted, &links.first, weights)?;
+    questions_from_22(&counted, &links.first, weights)?;
+    Ok(Job { bytes, counts })
 }
 
-// The number of the first of questions 7 and 8 that a job fails, 0 where it passes them.
-fn questions_from_7(job: &[u8], counts: Counts) -> usize
-    requires { Counted counts job.now }
-    ensures { result ≡ first_no (questions_from7 counts job.now) }
+// The first question that a job fails, or the job where it passes all, and then its segments are linked and `weights` has the weight of each segment's
+// sink. The count of its records is told either way. The length is divided here and nowhere else.
+pub fn check<'a>(
+    bytes: &'a [u8],
+    links: &mut Links,
+    weights: &mut [u8; 64],
+) -> Result<Passed<'a>, Failed>
+    ensures { CheckOf bytes.now result links.new.first links.new.next weights.new }
 {
-    if !asked::question7(job, counts) {
-        return 7;
-    }
-    if !asked::question8(job, counts) {
-        return 8;
-    }
-    0
-}
-
-// The number of the first of questions 24 and 3 to 8 that a job of n weight records fails, 0 where it passes them.
-fn questions_from_24(job: &[u8], counts: Counts, n: usize) -> usize
-    requires held { Held counts job.now }
-    requires weights_held { WeightsHeld counts job.now n }
-    ensures { result ≡ first_no (questions_from24 counts job.now) }
-{
-    if !asked::question24(job, counts) {
-        return 24;
-    }
-    if !asked::question3(counts) {
-        return 3;
-    }
-    if !asked::question4(job, counts, n) {
-        return 4;
-    }
-    if !asked::question5(job, counts, n) {
-        return 5;
-    }
-    if !asked::question6(job, counts) {
-        return 6;
-    }
-    questions_from_7(job, counts)
-}
-
-// A job of n records that fails a question, where no counts by kind are handed on.
-fn uncounted(number: usize, n: usize) -> Outcome
-    ensures { (result.number ≡ number) × (result.records ≡ n) }
-{
-    Outcome {
-        number: number,
-        records: n,
-        counts: Counts {
-            widths: 0,
-            layer0: 0,
-            sizes: 0,
-            stages: 0,
-            segments: 0,
-            repeaters: 0,
-        },
-    }
-}
-
-// The number of the first of questions 1 to 8 and 24 that a job fails, 0 where it passes them; the count of its records; and, where it passes
-// them, their counts by kind. The length is divided here and nowhere else.
-fn questions_from_1(job: &[u8]) -> Outcome
-    ensures { Asked job.now result }
-{
-    let records = job.len() / 16;
-    if !asked::question1(job, records) {
-        return uncounted(1, records);
-    }
-    let ends = kinds::find_ends(job, records);
-    if !asked::question2(job, records, ends) {
-        return uncounted(2, records);
-    }
-    let counts = kinds::count(job, records, ends);
-    let weights = records - ends.repeaters;
-    let number = questions_from_24(job, counts, weights);
-    Outcome {
-        number: number,
-        records: records,
-        counts: counts,
-    }
-}
-
-// The number of the first question that a job fails, 0 where it passes all; the count of its records; and, where it passes all, their counts by
-// kind, its segments are linked, and `weights` has the weight of each segment's sink. Linking asks question 9, loading the weights question 21.
-pub fn check(job: &[u8], first: &mut [usize], next: &mut [usize], weights: &mut [u8; 64]) -> Outcome
-    requires in_bounds { (64 < length first.old) × (64 ≤ length next.old) }
-    requires weights_len { length weights.old ≡ 64 }
-    ensures { CheckOf job.now result first.new next.new weights.new }
-{
-    let outcome = questions_from_1(job);
-    if outcome.number != 0 {
-        return outcome;
-    }
-    let counts = outcome.counts;
-    if !links::link(job, counts, first, next) {
-        return uncounted(9, outcome.records);
-    }
-    let places = counts.stages + counts.segments + counts.repeaters;
-    let n = outcome.records - (counts.widths + counts.sizes + places);
-    let number = questions_from_10(job, counts, first, n, weights);
-    Outcome {
-        number: number,
-        records: outcome.records,
-        counts: counts,
+    let records = bytes.len() / 16;
+    match questions_from_1(bytes, records, links, weights) {
+        Ok(job) => Ok(Passed { job, records }),
+        Err(refusal) => Err(Failed { refusal, records }),
     }
 }
