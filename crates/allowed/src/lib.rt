@@ -4,6 +4,7 @@
 ghost use Rattle.std.specs.Prelude.{◌≡◌, ◌<◌, ◌≤◌, length};
 ghost use Rattle.net.specs.Job.{places_by};
 ghost use Rattle.net.specs.Net.{net_by};
+ghost use Rattle.net.specs.Answers.{question16};
 ghost use Rattle.refusal.specs.Numbers.{refusal_number};
 ghost use Rattle.allowed.specs.Number.{index_in_range, sizing_number};
 
@@ -20,14 +21,20 @@ fn index_in_range(job: &Job<'_>, sizing: &[u8], p: usize) -> bool
     (range.lowest <= k) & (k <= range.highest)
 }
 
+// Is each index of a sizing in its place's range?
+fn in_ranges(job: &Job<'_>, sizing: &[u8]) -> bool
+    requires { places_by job.now.counts ≤ length sizing.now }
+    ensures { result ≡ question16 (net_by job.now.counts job.now.bytes.now) sizing.now }
+{
+    (0..job.places()).all(|p| index_in_range(job, sizing, p))
+}
+
 // A sizing is refused by the first of the questions 15 and 16 that it fails.
 pub fn check_sizing(job: &Job<'_>, sizing: &[u8]) -> Result<(), Refusal>
     ensures { refusal_number result ≡ sizing_number (net_by job.now.counts job.now.bytes.now) sizing.now }
 {
-    let places = job.places();
-    if sizing.len() < places {
+    if sizing.len() < job.places() {
         return Err(Refusal::SizingLength);
     }
-    let in_ranges = (0..places).all(|p| index_in_range(job, sizing, p));
-    refusal::require(in_ranges, Refusal::Indices)
+    refusal::require(in_ranges(job, sizing), Refusal::Indices)
 }

@@ -54,11 +54,18 @@ fn has_branches(first: &[usize], n: usize, i: usize) -> bool
     i < n && first[i + 1] < n
 }
 
-// Is the segment of each repeater one of n, has it branches, and do the segment numbers strictly rise?
+// Is the segment of each repeater one of n, and has it branches?
+fn sites_branched(repeaters: &Run<'_>, first: &[usize], n: usize) -> bool
+    requires { n < length first.now }
+    ensures { result ≡ every repeaters.now.count (site_branched repeaters.now.bytes.now first.now repeaters.now.start n) }
+{
+    (0..repeaters.count).all(|k| has_branches(first, n, repeaters.byte(k, 2)))
+}
+
+// The same, and do the segment numbers strictly rise?
 pub fn repeaters_sited(repeaters: &Run<'_>, first: &[usize], n: usize) -> bool
     requires { n < length first.now }
     ensures { result ≡ every repeaters.now.count (site_branched repeaters.now.bytes.now first.now repeaters.now.start n) && every (repeaters.now.count - 1) (sites_rise repeaters.now.bytes.now repeaters.now.start) }
 {
-    let branched = (0..repeaters.count).all(|k| has_branches(first, n, repeaters.byte(k, 2)));
-    branched & runs::bytes_rise(repeaters, 2)
+    sites_branched(repeaters, first, n) & runs::bytes_rise(repeaters, 2)
 }
