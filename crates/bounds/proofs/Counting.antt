@@ -1,12 +1,12 @@
 -- A product of numbers that are at least 1, place by place: what a loop that multiplies them, and stops once it is above 65,536, knows.
 use mathlib.Core.Path.{◌≡◌, refl, sym}
 use mathlib.Core.Logic.{◌⊎◌, inl, inr}
-use mathlib.Core.Bool.{true, false}
+use mathlib.Core.Bool.{false}
 use Prim.Native.Nat.{ℕ, zero, suc, ◌+◌, ◌*◌, ◌≤◌, ◌<◌}
-use native.Mathlib.Nat.{eq-or-lt_of_le, le_of_suc-le-suc, le_refl, le_antisymm, mul-le-mul}
+use native.Mathlib.Nat.{eq-or-lt_of_le, le_of_suc-le-suc, le_refl}
 use native.Mathlib.Numerals.{add-one}
 use native.Mathlib.Omega.{arith}
-use borrow.Author.Tests.{le-leb, lt-leb}
+use borrow.Author.Tests.{lt-leb}
 use lib.Dec.{leb}
 use Rattle.lattice.specs.Lists.{product}
 
@@ -33,9 +33,6 @@ counting-start f n = record { up_to = omega arith; counted = refl; fits = omega 
 module _ {f : ℕ → ℕ} {n room p : ℕ} (i : Counting f n room p) where
   -- with the number k of the next place
   module _ {k : ℕ} where
-    pub counting-room : k ≤ 256 → room * k ≤ 65536 * 256
-    counting-room h = mul-le-mul i.fits h
-
     next : k ≡ suc (f p) → room * k ≡ product (p + 1) (λ q. suc (f q))
     unfolding product
     next e = rw (add-one p, e, i.counted) (omega arith)
@@ -47,8 +44,3 @@ module _ {f : ℕ → ℕ} {n room p : ℕ} (i : Counting f n room p) where
     counting-over h e l =
         let above : 65536 < product n (λ q. suc (f q)) = omega (arith, next e, product_le f (p + 1) n (omega arith)) in
         sym (lt-leb _ _ above)
-
-  pub counting-end : n ≤ p → true ≡ leb (product n (λ q. suc (f q))) 65536
-  counting-end h =
-      let all : product n (λ q. suc (f q)) ≤ 65536 = rw (le_antisymm h i.up_to, ← i.counted) i.fits in
-      sym (le-leb _ _ all)

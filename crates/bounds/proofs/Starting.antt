@@ -1,20 +1,15 @@
 -- The first index at each place, seen from a side, is where refining starts: what the loop that puts them there knows.
-use mathlib.Core.Path.{◌≡◌, ◌∙◌}
+use mathlib.Core.Path.{◌≡◌}
 use mathlib.Core.List.{List}
-use Prim.Native.Nat.{ℕ, ◌+◌, ◌≤◌, ◌<◌}
-use native.Mathlib.Decide.{ℕ_discrete}
+use Prim.Native.Nat.{ℕ, ◌≤◌, ◌<◌}
 use native.Mathlib.Omega.{arith}
-use lib.ListN.{length, set, length-set}
-use lib.Seq.{get_or-set_same, get_or-set_other}
+use lib.ListN.{length}
 use Rattle.lattice.specs.Side.{Side, below, above, Order}
 use Rattle.lattice.specs.Lists.{at}
 use Rattle.lattice.specs.Space.{Allowed, Before, Boxed, within}
 use Rattle.lattice.specs.Refine.{Approaching}
 use Rattle.lattice.proofs.Refining.{first-approaching}
-use Rattle.net.specs.declared.Counts.{Counts}
-use Rattle.net.specs.Net.{net_by}
 use Rattle.net.specs.Driving.{Driving, allowed_by, delay_by}
-use Rattle.net.specs.Order.{order, placed_by, driving_by}
 use Rattle.net.proofs.InOrder.{allowed-by, driving-lattice}
 use Rattle.bounds.specs.Sweep.{first_at}
 
@@ -32,17 +27,6 @@ pub record Starting (s : Side) (net : Driving) (x : List ℕ) (p : ℕ) : Type 0
   pub up_to : p ≤ net.places
   pub long : length x ≡ net.places
   pub firsts : (q : ℕ) → q < p → at x q ≡ first_at s net q
-
-module _ (s : Side) (net : Driving) (x : List ℕ) where
-  pub starting-start : length x ≡ net.places → Starting s net x 0
-  starting-start e = record { up_to = omega arith; long = e; firsts = λ q h. absurd (omega arith) }
-
-  pub starting-step : (p k : ℕ) → Starting s net x p → p < net.places → k ≡ first_at s net p → Starting s net (set x p k) (p + 1)
-  starting-step p k i h e = record { up_to = omega arith; long = length-set x p k ∙ i.long; firsts = λ q l. go q (ℕ_discrete q p) (omega arith) }
-    where
-      go : (q : ℕ) → Dec (q ≡ p) → q ≤ p → at (set x p k) q ≡ first_at s net q
-      go q (yes f) l = rw f (get_or-set_same x p k 0 (rw i.long h) ∙ e)
-      go q (no f) l = get_or-set_other x p q k 0 f ∙ i.firsts q (omega arith)
 
 -- past the last place
 pub starting-end : (s : Side) (net : Driving) (x : List ℕ) (p : ℕ) → ((q : ℕ) → q < net.places → net.lowest q ≤ net.highest q) → Starting s net x p → net.places ≤ p
@@ -63,8 +47,3 @@ starting-end s net x p ranges i h = first-approaching (driving-lattice net) (del
 
     first : (y : List ℕ) → Allowed (allowed_by net) y → Before s net.places x y
     first y a q l = let z = (allowed-by net y).0 a in rw (here q l) (first-order s net q (at y q) (z.low q l) (z.high q l))
-
--- the first index of the place at a position is that of the position
-pub first-same : (s : Side) (c : Counts) (b : List ℕ) (t p : ℕ) → p ≡ order (net_by c b) t → first_at s (placed_by c b) p ≡ first_at s (driving_by c b) t
-first-same below c b t p e = rw e
-first-same above c b t p e = rw e

@@ -5,7 +5,7 @@ use mathlib.Core.List.{List}
 use Prim.Native.Nat.{ℕ, suc, ◌+◌, ◌≤◌, ◌<◌}
 use native.Mathlib.Omega.{arith}
 use lib.Dec.{eqb}
-use lib.ListN.{length, set}
+use lib.ListN.{set}
 use lib.Seq.{set-get_or, get_or-set_same, get_or-set_other}
 use borrow.Author.Count.{below_more}
 use borrow.Author.Tests.{eqb-true, eqb-false}
@@ -21,7 +21,7 @@ use Rattle.net.proofs.InOrder.{driving-lattice}
 use Rattle.place.specs.Partial.{WeightsFrom}
 use Rattle.place.specs.Held.{onward, DrivenFrom, UpstreamTo}
 use Rattle.place.proofs.Driving.{driven-all}
-use Rattle.place.proofs.Upstream.{before-start, before-step, onward-reads, upstream-reads}
+use Rattle.place.proofs.Upstream.{before-step, onward-reads, upstream-reads}
 use Rattle.refine.specs.declared.Ends.{Ends}
 use Rattle.refine.specs.Settled.{end_from, Settled, EndsAt}
 use Rattle.refine.proofs.Settling.{figures-small, settled-ends}
@@ -84,10 +84,6 @@ pub record Sweeping (net : Driving) (s : Side) (x₀ : List ℕ) (p : ℕ) (x up
   pub later : (q : ℕ) → p ≤ q → q < net.places → at x q ≡ at x₀ q
 
 module _ (net : Driving) (o : Placed net) (s : Side) (x₀ : List ℕ) where
-  pub sweeping-start : (upstream : List ℕ) → net.places ≤ length upstream → Approaching s (allowed_by net) (delay_by net) x₀ → Sweeping net s x₀ 0 x₀ upstream false
-  sweeping-start upstream h a =
-      record { up_to = omega arith; swept = swept-start x₀ a; known = before-start net _ upstream h; later = λ q l m. refl }
-
   module _ (p : ℕ) (few : p < net.places) (x upstream : List ℕ) (changed : Bool) (i : Sweeping net s x₀ p x upstream changed) where
     -- the place drives what it drove when the sweep began
     drives-yet : (driven : List ℕ) → DrivenFrom net x₀ x₀ 0 driven → at driven p ≡ driven_load net x p

@@ -36,9 +36,6 @@ through-small r q h k = mul-le-mul h k
 pub weighted-small : (w d : ℕ) → w ≤ 32640 → d ≤ 2750000000000 → w * d ≤ 89760000000000000
 weighted-small w d h k = mul-le-mul h k
 
-pub upstream-small : (u l : ℕ) → u ≤ 496128000000 → l ≤ 13800000 → u * l ≤ 6846566400000000000
-upstream-small u l h k = mul-le-mul h k
-
 -- a slope is small
 pub slope-small : (w r : ℕ) → w ≤ 65280 → r ≤ 100000 → w * r ≤ 6528000000
 slope-small w r h k = mul-le-mul h k
@@ -204,9 +201,6 @@ bounds-of {c} {b} bounds low up =
 
 -- A spot is its place with its weight and the resistance before it.
 module _ {c : Counts} {b : List ℕ} {w u p : ℕ} {s : Spot} (of : SpotOf c b w u p s) where
-  pub spot-table : TableOf c b s.place s.table
-  spot-table = rw of.place of.table
-
   pub spot-limits : {k l : ℕ} → StepInLimits c b w u p k l → StepInLimits c b s.weight s.before.0 s.place k l
   spot-limits m = rw (of.weight, of.before, of.place) m
 

@@ -6,7 +6,7 @@ use mathlib.Core.List.{List}
 use Prim.Native.Nat.{ℕ, zero, suc, ◌+◌, ◌*◌, ◌-◌, ◌≤◌, ◌<◌}
 use native.Mathlib.Nat.{eq-or-lt_of_le, le_of_suc-le-suc}
 use native.Mathlib.Omega.{arith}
-use borrow.Author.Tests.{lt-ltb, le-ltb}
+use borrow.Author.Tests.{le-ltb}
 use lib.Dec.{ltb}
 use lib.ListN.{length, set, length-set}
 use lib.Seq.{get_or-set_same, get_or-set_other}
@@ -29,9 +29,6 @@ before-some f (suc p) n = let e : suc p - 1 ≡ p = omega arith in ap f e
 
 -- By cases: a free place, a driver, a wire.
 module _ (net : Driving) (lower upper upstream : List ℕ) (a : ℕ) where
-  pub onward-free : at lower a < at upper a → 0 ≡ onward net lower upper upstream a
-  onward-free h = rw (lt-ltb (at lower a) (at upper a) h)
-
   pub onward-driver : at upper a ≤ at lower a → net.driver a ≡ true → slope net a (at lower a) ≡ onward net lower upper upstream a
   onward-driver h e = rw (le-ltb (at lower a) (at upper a) h, e) (omega arith)
 

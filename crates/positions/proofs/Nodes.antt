@@ -10,12 +10,12 @@ use lib.ListN.{length, set}
 use Rattle.lattice.specs.Lists.{at}
 use Rattle.net.specs.declared.Counts.{Counts}
 use Rattle.net.specs.Job.{places_by, of_kind}
-use Rattle.net.specs.Net.{Net, places, net_by}
+use Rattle.net.specs.Net.{Net, net_by}
 use Rattle.net.specs.Checked.{Checked, Ordered}
 use Rattle.net.specs.Order.{places_before, position, placed_by, driving_by, InOrder, Run}
 use Rattle.net.proofs.Places.{of-segment, is-stage, is-segment, is-repeater, kinds}
 use Rattle.net.proofs.Order.{position-segment, numbering}
-use Rattle.net.proofs.Ordering.{order-start, order-end, put-place, put-repeater}
+use Rattle.net.proofs.Ordering.{order-end, put-place, put-repeater}
 use Rattle.net.proofs.Questions.{ordered}
 use Rattle.job.specs.Ranges.{driver_at}
 use Rattle.job.proofs.Ranges.{wire-range}
@@ -58,35 +58,7 @@ pub record Passing (net : Net) (start r : ℕ) (orders positions : List ℕ) : T
   pub after : (k : ℕ) → r ≤ k → k < net.repeaters → start ≤ net.stages + net.site k
   pub in_order : InOrder net (start + r) orders positions
 
-pub passing-start : (net : Net) (orders positions : List ℕ) → places net ≤ length orders → places net ≤ length positions → Passing net 0 0 orders positions
-passing-start net orders positions h l =
-    record {
-      few = omega arith;
-      within = omega arith;
-      before = λ k m. absurd (omega arith);
-      after = λ k m n. omega arith;
-      in_order = order-start net orders positions h l;
-    }
-
 module _ (net : Net) (o : Ordered net) {start r : ℕ} {orders positions : List ℕ} (p : Passing net start r orders positions) where
-  -- up to the segment of the next repeater, and past the last one
-  pub passing-run : r < net.repeaters → (end : ℕ) → end ≡ net.stages + net.site r + 1 → Run net start end r
-  passing-run h end e =
-      record {
-        few = p.few;
-        rise = omega (arith, p.after r (omega arith) h);
-        within = omega (arith, o.sites r h);
-        before = p.before;
-        after = λ k l m. later k (eq-or-lt_of_le l) m;
-      }
-    where
-      later : (k : ℕ) → (r ≡ k) ⊎ (r < k) → k < net.repeaters → end ≤ suc (net.stages + net.site k)
-      later k (inl f) m = rw (← f) (omega arith)
-      later k (inr f) m = omega (arith, o.rising r k f m)
-
-  pub passing-last : net.repeaters ≤ r → Run net start (net.stages + net.segments) r
-  passing-last h = record { few = p.few; rise = p.within; within = omega arith; before = p.before; after = λ k l m. absurd (omega arith) }
-
   pub passing_step : r < net.repeaters → (end : ℕ) → end ≡ net.stages + net.site r + 1 → (orders' positions' : List ℕ) → InOrder net (end + r) orders' positions'
       → Passing net end (r + 1) (set orders' (end + r) (net.stages + net.segments + r)) (set positions' (net.stages + net.segments + r) (end + r))
   passing_step h end e orders' positions' a =

@@ -5,9 +5,9 @@ use Rattle.net.specs.Driving.{allowed_by, delay_by}
 use Rattle.net.specs.Order.{driving_by}
 use Rattle.bounds.proofs.bound.Given as goal
 
-abbrev pub invariant-loop-counts : goal.invariant-loop-counts
-invariant-loop-counts l =
-    Approaching (side_of l.side) (allowed_by (driving_by l.counts l.job)) (delay_by (driving_by l.counts l.job)) l.x
+abbrev pub invariant-loop-side : goal.invariant-loop-side
+invariant-loop-side l =
+    Approaching (side_of l.side) (allowed_by (driving_by l.places.arranged.job.counts l.places.arranged.job.bytes.now)) (delay_by (driving_by l.places.arranged.job.counts l.places.arranged.job.bytes.now)) l.x
 
-abbrev pub decreases-loop-counts : goal.decreases-loop-counts
-decreases-loop-counts l = slack (side_of l.side) (allowed_by (driving_by l.counts l.job)) l.x
+abbrev pub decreases-loop-side : goal.decreases-loop-side
+decreases-loop-side l = slack (side_of l.side) (allowed_by (driving_by l.places.arranged.job.counts l.places.arranged.job.bytes.now)) l.x
