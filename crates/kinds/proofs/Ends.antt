@@ -19,14 +19,14 @@ use Rattle.kinds.specs.declared.RunEnds.{RunEnds}
 use Rattle.kinds.specs.Kinds.{Kinds, RunEnd, EndsOf}
 use Rattle.kinds.specs.Counted.{layer0_in, counts_to}
 
--- What question 2 gives.
-pub kinds-known : (b : List ℕ) → question2 b ≡ true → Kinds b (records b)
+-- What question 2 gives, of all records and so of the first n.
+pub kinds-known : (b : List ℕ) {n : ℕ} → n ≤ records b → question2 b ≡ true → Kinds b n
 unfolding question2
-kinds-known b e =
+kinds-known b m e =
     let a = and_T (every (records b) (λ k. in_range 1 6 (kind b k))) (every (records b - 1) (λ k. leb (kind b k) (kind b (suc k)))) (rw e tt) in
     record {
-      known = λ k h. in-range 1 6 (kind b k) (every-at (records b) (λ k. in_range 1 6 (kind b k)) a.0 k h);
-      order = never-falls (kind b) (records b) (λ k h. leb→le _ _ (every-at (records b - 1) (λ k. leb (kind b k) (kind b (suc k))) a.1 k h));
+      known = λ k h. in-range 1 6 (kind b k) (every-at (records b) (λ k. in_range 1 6 (kind b k)) a.0 k (omega arith));
+      order = λ j k i l. never-falls (kind b) (records b) (λ k h. leb→le _ _ (every-at (records b - 1) (λ k. leb (kind b k) (kind b (suc k))) a.1 k h)) j k i (omega arith);
     }
 
 -- What gives question 2.
@@ -134,7 +134,7 @@ module _ {b : List ℕ} {n : ℕ} {r : RunEnds} (a : EndsOf b n r) where
   covers-all e = go (question2 b) refl
     where
       go : (p : Bool) → p ≡ question2 b → eqb r.weights n ≡ p
-      go true f = eq-eqb r.weights n (all-covered (rw (sym e) at (kinds-known b (sym f))))
+      go true f = eq-eqb r.weights n (all-covered (rw (sym e) at (kinds-known b {n = records b} (omega arith) (sym f))))
       go false f = ne_eqb r.weights n (λ d. true≢false (kinds-pass b (rw (d ∙ e) at front-6.kinds) ∙ sym f))
 
   -- behind the widths there is none, so the widths of layer 0 are those among the first records

@@ -11,7 +11,7 @@ use Rattle.std.specs.Prelude.{⊤}
 use Rattle.lattice.proofs.ListLaws.{and_T}
 use Rattle.net.specs.declared.Counts.{Counts}
 use Rattle.net.specs.Job.{records, counts_of, weight_records, widths_of}
-use Rattle.net.specs.Questions.{in_range, question1, question2, question3, question10, question11, Question, ask, first_no, job_questions, refusal}
+use Rattle.net.specs.Questions.{in_range, question3, question10, question11, Question, ask, first_no, job_questions, refusal}
 use Rattle.net.specs.Checked.{Held, WeightsHeld}
 use Rattle.net.specs.Weights.{last_at}
 use Rattle.net.proofs.Records.{counts-small, layer0-small, weights-held}
@@ -22,7 +22,8 @@ use Rattle.refusal.proofs.Positive.{number-positive}
 use Rattle.kinds.specs.Counted.{counts_to}
 use Rattle.segments.specs.Tests.{OwnWeights, all_fit, all_end, segments_number}
 use Rattle.sinks.specs.Loaded.{LoadedTo}
-use Rattle.questions.specs.Check.{questions_from9, questions_from22, questions_from24}
+use Rattle.job.specs.declared.counted.Records.{Records}
+use Rattle.questions.specs.Check.{Begun, questions_from1, questions_from9, questions_from22, questions_from24}
 
 -- r is the answer to the question q, the first of those that are left: yes, and a later one decides; or no; or it is the last
 pub yes : (m : ℕ) (qs : List Question) {q r : Bool} {n : ℕ} → r ≡ q → 0 ≡ cond r 0 (suc m) → n ≡ first_no qs → n ≡ first_no (ask (suc m) q ∷ qs)
@@ -107,33 +108,32 @@ all-passed (q ∷ qs) p e = go q.passed refl (all-passed qs p.1) e
     go true f rest h = (f, rest h)
     go false f rest h = absurd (omega (arith, p.0))
 
--- A job passes questions 1 and 2, and the counts of its records are c.
-pub record Begun (b : List ℕ) (c : Counts) : Type 0 where
-  pub one : question1 b ≡ true
-  pub two : question2 b ≡ true
-  pub counted : c ≡ counts_of b
+-- a question before the records are counted refuses the job
+pub refused-1 : (b : List ℕ) (f : Refusal) → number_of f ≡ first_no (questions_from1 b) → number_of f ≡ refusal b
+unfolding first_no refusal job_questions questions_from1 questions_from24 questions_from9 questions_from22
+refused-1 b f h = found (questions_from1 b) (questions_from24 (counts_of b) b ++ questions_from9 (counts_of b) b) f h
 
-module _ {b : List ℕ} {c : Counts} (k : Begun b c) where
-  both : {n : ℕ} → n ≡ first_no (questions_from24 c b ++ questions_from9 c b) → n ≡ refusal b
+module _ {b : List ℕ} {r : Records} (k : Begun b r) where
+  both : {n : ℕ} → n ≡ first_no (questions_from24 r.counts r.bytes.now ++ questions_from9 r.counts r.bytes.now) → n ≡ refusal b
   unfolding first_no refusal job_questions questions_from24 questions_from9 questions_from22
-  both h = rw (k.one, k.two, ← k.counted) h
+  both h = rw (k.one, k.two) (rw (k.bytes, k.counted) at h)
 
   -- a question before linking refuses it
-  pub refused-24 : (f : Refusal) → number_of f ≡ first_no (questions_from24 c b) → number_of f ≡ refusal b
-  refused-24 f h = both (found (questions_from24 c b) (questions_from9 c b) f h)
+  pub refused-24 : (f : Refusal) → number_of f ≡ first_no (questions_from24 r.counts r.bytes.now) → number_of f ≡ refusal b
+  refused-24 f h = both (found (questions_from24 r.counts r.bytes.now) (questions_from9 r.counts r.bytes.now) f h)
 
   -- it passes those
-  module _ (h : 0 ≡ first_no (questions_from24 c b)) where
-    passed-24 : Passed (questions_from24 c b)
+  module _ (h : 0 ≡ first_no (questions_from24 r.counts r.bytes.now)) where
+    passed-24 : Passed (questions_from24 r.counts r.bytes.now)
     unfolding questions_from24
-    passed-24 = all-passed (questions_from24 c b) (omega arith, (omega arith, (omega arith, (omega arith, (omega arith, (omega arith, (omega arith, tt))))))) h
+    passed-24 = all-passed (questions_from24 r.counts r.bytes.now) (omega arith, (omega arith, (omega arith, (omega arith, (omega arith, (omega arith, (omega arith, tt))))))) h
 
-    pub few-segments : c.segments ≤ 64
+    pub few-segments : r.counts.segments ≤ 64
     unfolding questions_from24
-    few-segments = (in-counts c passed-24.1.0).1
+    few-segments = (in-counts r.counts passed-24.1.0).1
 
-    pub from-9 : {n : ℕ} → n ≡ first_no (questions_from9 c b) → n ≡ refusal b
-    from-9 t = both (passed-on (questions_from24 c b) (questions_from9 c b) passed-24 t)
+    pub from-9 : {n : ℕ} → n ≡ first_no (questions_from9 r.counts r.bytes.now) → n ≡ refusal b
+    from-9 t = both (passed-on (questions_from24 r.counts r.bytes.now) (questions_from9 r.counts r.bytes.now) passed-24 t)
 
 -- Questions 10 and 11, by the loop over the segments, where those before them pass.
 module _ (c : Counts) (b first : List ℕ) (ten : all_fit c b ≡ question10 c b) (eleven : all_end c b first ≡ question11 c b) where

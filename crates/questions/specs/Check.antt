@@ -2,11 +2,11 @@
 use Rattle.std.specs.Prelude.{◌≡◌, true, List, [], ◌∷◌, ℕ, ◌*◌, length, Result, Ok, Err, IfOk}
 use Rattle.net.specs.declared.Counts.{Counts}
 use Rattle.net.specs.Job.{records, counts_of}
-use Rattle.net.specs.Net.{net_by}
-use Rattle.net.specs.Questions.{question1, question24, question3, question4, question5, question6, question7, question8, question9, question10, question11, question22, question23, question20, question21, Question, ask, refusal}
+use Rattle.net.specs.Questions.{question1, question2, question24, question3, question4, question5, question6, question7, question8, question9, question10, question11, question22, question23, question20, question21, Question, ask, refusal}
 use Rattle.net.specs.Checked.{SinkWeights}
 use Rattle.job.specs.declared.Job.{Job}
-use Rattle.links.specs.Links.{Linked}
+use Rattle.job.specs.declared.counted.Records.{Records}
+use Rattle.links.specs.Links.{LinkedBy}
 use Rattle.refusal.specs.Numbers.{number_of}
 use Rattle.questions.specs.declared.Passed.{Passed}
 use Rattle.questions.specs.declared.Failed.{Failed}
@@ -20,12 +20,19 @@ abbrev pub check_records : Result Passed Failed → ℕ
 check_records (Ok p) = p.records
 check_records (Err f) = f.records
 
+-- r is the records of the job b, counted by kind, and the job passes questions 1 and 2.
+pub record Begun (b : List ℕ) (r : Records) : Type 0 where
+  pub bytes : r.bytes.now ≡ b
+  pub one : question1 b ≡ true
+  pub two : question2 b ≡ true
+  pub counted : r.counts ≡ counts_of b
+
 -- j is the job b, which has the facts of `Checked` by its type; its segments are linked, and the weights of their sinks are loaded.
 pub record PassedOf (b : List ℕ) (j : Job) (first next weights : List ℕ) : Type 0 where
   pub bytes : j.bytes.now ≡ b
   pub counted : j.counts ≡ counts_of b
-  pub linked : Linked (net_by j.counts b) first next
-  pub weighed : SinkWeights j.counts b weights
+  pub linked : LinkedBy j.counts j.bytes.now first next
+  pub weighed : SinkWeights j.counts j.bytes.now weights
 
 -- The number is that of the first question that the job fails; the count is that of the job's records, and sixteen times it is the length wherever
 -- question 1 passes; where no question is failed the job is handed on.
@@ -35,7 +42,10 @@ pub record CheckOf (b : List ℕ) (r : Result Passed Failed) (first next weights
   pub filled : question1 b ≡ true → 16 * check_records r ≡ length b
   pub passed : IfOk r (λ p. PassedOf b p.job first next weights)
 
--- The questions that are asked before linking, from 24 on; those that are asked last, from 22 on; and all that are asked from linking on.
+-- The questions that are asked before the records are counted; those that are asked before linking, from 24 on; those that are asked last, from 22 on; and all that are asked from linking on.
+unfoldable pub questions_from1 : List ℕ → List Question
+questions_from1 b = ask 1 (question1 b) ∷ ask 2 (question2 b) ∷ []
+
 unfoldable pub questions_from24 : Counts → List ℕ → List Question
 questions_from24 c b =
     ask 24 (question24 c b)

@@ -9,7 +9,7 @@ ghost use Rattle.net.specs.Checked.{SinkWeights};
 ghost use Rattle.refusal.specs.Numbers.{refusal_number};
 ghost use Rattle.sinks.specs.Loaded.{LoadedTo};
 ghost use Rattle.asked.specs.Parts.{Firsts};
-ghost use Rattle.questions.specs.Check.{CheckOf, PassedOf, questions_from24, questions_from22};
+ghost use Rattle.questions.specs.Check.{Begun, CheckOf, PassedOf, questions_from1, questions_from24, questions_from22};
 
 use job::{Job, Records};
 use links::Links;
@@ -35,6 +35,24 @@ impl From<Failed> for Refusal {
     fn from(failed: Failed) -> Refusal {
         failed.refusal
     }
+}
+
+// Questions 1 and 2 of a job of n records, and where they are passed the records counted by kind.
+#[tactic(auto, using(crate::proofs::Numbers::yes, crate::proofs::Numbers::no, crate::proofs::Numbers::last), unfolding(crate::specs::Check::questions_from1))]
+fn count_records<'a>(bytes: &'a [u8], n: usize) -> Result<Records<'a>, Refusal>
+    requires { n ≡ records bytes.now }
+    ensures number { refusal_number result ≡ first_no (questions_from1 bytes.now) }
+    ensures begun { IfOk result (λ counted. Begun bytes.now counted) }
+{
+    require(asked::question1(bytes, n), Refusal::Length)?;
+    let ends = kinds::find_ends(bytes, n);
+    require(asked::question2(bytes, n, ends), Refusal::Kinds)?;
+    let counts = kinds::count(bytes, n, ends);
+    Ok(Records {
+        bytes,
+        counts,
+        weights: n - ends.repeaters,
+    })
 }
 
 // The questions that are asked before the segments are linked: 24 and 3 to 8.
@@ -83,20 +101,15 @@ fn questions_from_1<'a>(
     ensures number { refusal_number result ≡ refusal bytes.now }
     ensures passed { IfOk result (λ job. PassedOf bytes.now job links.new.first links.new.next weights.new) }
 {
-    require(asked::question1(bytes, n), Refusal::Length)?;
-    let ends = kinds::find_ends(bytes, n);
-    require(asked::question2(bytes, n, ends), Refusal::Kinds)?;
-    let counts = kinds::count(bytes, n, ends);
-    let counted = Records {
-        bytes,
-        counts,
-        weights: n - ends.repeaters,
-    };
-    questions_from_24(&counted)?;
-    require(links::link(&counted, links), Refusal::Parents)?;
-    segments::segments_fit(&counted, &links.first, weights)?;
-    questions_from_22(&counted, &links.first, weights)?;
-    Ok(Job { bytes, counts })
+    let records = count_records(bytes, n)?;
+    questions_from_24(&records)?;
+    require(links::link(&records, links), Refusal::Parents)?;
+    segments::segments_fit(&records, &links.first, weights)?;
+    questions_from_22(&records, &links.first, weights)?;
+    Ok(Job {
+        bytes: records.bytes,
+        counts: records.counts,
+    })
 }
 
 // The first question that a job fails, or the job where it passes all, and then its segments are linked and `weights` has the weight of each segment's
