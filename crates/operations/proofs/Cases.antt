@@ -7,6 +7,8 @@ use native.Mathlib.Omega.{arith}
 use borrow.Author.Tests.{lt-ltb, le-ltb, le-leb, lt-leb, ne_eqb}
 use lib.Dec.{lit≤}
 use lib.ListN.{take}
+use Rattle.std.specs.Prelude.{Some, None, Result, Ok, Err}
+use Rattle.std.specs.Result.{result_ok}
 use Rattle.lattice.specs.Space.{Allowed}
 use Rattle.net.specs.declared.Counts.{Counts}
 use Rattle.net.specs.Net.{Net, places, net_by, net_of}
@@ -21,24 +23,55 @@ use Rattle.net.proofs.Questions.{ordered}
 use Rattle.allowed.specs.Number.{sizing_number}
 use Rattle.allowed.proofs.Numbers.{number-ranges}
 use Rattle.best.specs.declared.EndsAndDelay.{EndsAndDelay}
-use Rattle.operations.specs.declared.Refinement.TheVariants.{Best, Refused as NotRefined}
-use Rattle.operations.specs.declared.Preference.TheVariants.{First, Second, Neither}
+use Rattle.refusal.specs.declared.Refusal.{Refusal as Question}
+use Rattle.refusal.specs.Numbers.{number_of}
+use Rattle.refusal.proofs.Positive.{number-positive}
+use Rattle.stages.specs.declared.DelayAndLoad.{DelayAndLoad}
+use Rattle.operations.specs.declared.Preference.TheVariants.{First, Second}
 use Rattle.best.specs.Reached.{ReachedAt, ReachedBy}
-use Rattle.operations.specs.Outcomes.{refined_by, Preferred, from_second}
+use Rattle.operations.specs.Outcomes.{measured_by, refined_by, Preferred, from_second}
 
 -- the sizing in a buffer that passes questions 15 and 16 is allowed
 pub sizing-allowed : (net : Net) (x : List ℕ) → sizing_number net x ≡ 0 → Allowed (allowed net) (sizing_in net x)
 sizing-allowed net x e = ranges-allowed net x (number-ranges net x e)
 
+-- a question's number is not 0
+nonzero : (r : Question) → number_of r ≡ 0 → ⊥
+nonzero r e = let h = number-positive r in omega arith
+
+-- what a result was, by the option that `ok` makes of it
+pub was_ok : {A E : Type 0} (r : Result A E) (a : A) → Some a ≡ result_ok r → r ≡ Ok a
+was_ok (Ok x) a e = cc
+was_ok (Err q) a e = absurd (some-none a e)
+  where
+    some-none : {A : Type 0} (a : A) → Some a ≡ None → ⊥
+    some-none a e = cc
+
+pub was_err : {A E : Type 0} (r : Result A E) → None ≡ result_ok r → (q : E) × (r ≡ Err q)
+was_err (Ok x) e = absurd (none-some x e)
+  where
+    none-some : {A : Type 0} (a : A) → None ≡ Some a → ⊥
+    none-some a e = cc
+was_err (Err q) e = (q, refl)
+
+-- what `require` tells, by its answer
+pub required-passed : (b : Bool) (r : Question) → 0 ≡ cond b 0 (number_of r) → b ≡ true
+required-passed true r e = refl
+required-passed false r e = absurd (nonzero r (sym e))
+
+pub required-failed : (b : Bool) (q r : Question) → number_of q ≡ cond b 0 (number_of r) → (b ≡ false) × (number_of q ≡ number_of r)
+required-failed true q r e = absurd (nonzero q e)
+required-failed false q r e = (refl, e)
+
 module _ (job x : List ℕ) where
   -- a job that is refused
-  pub measure-job : (n : ℕ) → n ≡ refusal job → (n ≡ 0 → ⊥) → record { number = n; delay = 0; load = 0 } ≡ measured job x
+  pub measure-job : (r : Question) → number_of r ≡ refusal job → measured_by (Err r) ≡ measured job x
   unfolding measure_number
-  measure-job n e z = sym (measured-refused job x n (job-fails job _ (λ f. z (e ∙ f)) ∙ sym e) z)
+  measure-job r e = sym (measured-refused job x (number_of r) (job-fails job _ (λ f. nonzero r (e ∙ f)) ∙ sym e) (nonzero r))
 
-  pub refine-job : (p n : ℕ) → n ≡ refusal job → (n ≡ 0 → ⊥) → refined_by (NotRefined n) ≡ refined job x p
+  pub refine-job : (p : ℕ) (r : Question) → number_of r ≡ refusal job → refined_by (Err r) ≡ refined job x p
   unfolding refine_number
-  refine-job p n e z = sym (refined-refused job x p n (job-fails job _ (λ f. z (e ∙ f)) ∙ sym e) z)
+  refine-job p r e = sym (refined-refused job x p (number_of r) (job-fails job _ (λ f. nonzero r (e ∙ f)) ∙ sym e) (nonzero r))
 
   -- a job that passes
   module _ {c : Counts} (k : Checked c job) (passes : refusal job ≡ 0) where
@@ -50,8 +83,8 @@ module _ (job x : List ℕ) where
     unfolding measure_number sizing_number
     number_is = job-passes job _ passes ∙ ap (λ n. sizing_number n x) (sym net-is)
 
-    pub measure-sizing : (n : ℕ) → n ≡ sizing_number (net_by c job) x → (n ≡ 0 → ⊥) → record { number = n; delay = 0; load = 0 } ≡ measured job x
-    measure-sizing n e z = sym (measured-refused job x n (number_is ∙ sym e) z)
+    pub measure-sizing : (r : Question) → number_of r ≡ sizing_number (net_by c job) x → measured_by (Err r) ≡ measured job x
+    measure-sizing r e = sym (measured-refused job x (number_of r) (number_is ∙ sym e) (nonzero r))
 
     -- the figures of the whole buffer are those of its sizing
     delay-is : delay (net_by c job) x ≡ delay (net_of job) (sizing_in (net_of job) x)
@@ -60,9 +93,9 @@ module _ (job x : List ℕ) where
     load_is : load_figure (net_by c job) x ≡ load_figure (net_of job) (sizing_in (net_of job) x)
     load_is = sym (load_figure-take (net_by c job) x) ∙ ap (λ n. load_figure n (sizing_in n x)) net-is
 
-    pub measure-answer : (d l : ℕ) → sizing_number (net_by c job) x ≡ 0 → d ≡ delay (net_by c job) x → l ≡ load_figure (net_by c job) x
-        → record { number = 0; delay = d; load = l } ≡ measured job x
-    measure-answer d l e f g = rw (f ∙ delay-is, g ∙ load_is) (sym (measured-answered job x (number_is ∙ e)))
+    pub measure-answer : (r : DelayAndLoad) → sizing_number (net_by c job) x ≡ 0 → r.delay.0 ≡ delay (net_by c job) x → r.load.0 ≡ load_figure (net_by c job) x
+        → measured_by (Ok r) ≡ measured job x
+    measure-answer r e f g = rw (f ∙ delay-is, g ∙ load_is) (sym (measured-answered job x (number_is ∙ e)))
 
     -- refine: its first two questions are a sizing's
     refine-number : (p : ℕ) → refine_number job x p ≡ first_no (sizing_questions job x ++ ask 17 (question17 (net_of job) p) ∷ [])
@@ -73,20 +106,21 @@ module _ (job x : List ℕ) where
     unfolding sizing_number
     sizing-is = ap (λ n. sizing_number n x) (sym net-is)
 
-    pub refine-sizing : (p n : ℕ) → n ≡ sizing_number (net_by c job) x → (n ≡ 0 → ⊥) → refined_by (NotRefined n) ≡ refined job x p
-    refine-sizing p n e z =
-        sym (refined-refused job x p n (refine-number p ∙ first_no-stop (sizing_questions job x) _ (λ f. z (e ∙ sym sizing-is ∙ f)) ∙ sizing-is ∙ sym e) z)
+    pub refine-sizing : (p : ℕ) (r : Question) → number_of r ≡ sizing_number (net_by c job) x → refined_by (Err r) ≡ refined job x p
+    refine-sizing p r e =
+        sym (refined-refused job x p (number_of r)
+        (refine-number p ∙ first_no-stop (sizing_questions job x) _ (λ f. nonzero r (e ∙ sym sizing-is ∙ f)) ∙ sizing-is ∙ sym e) (nonzero r))
 
     asked-17 : (p : ℕ) → sizing_number (net_by c job) x ≡ 0 → refine_number job x p ≡ first_no (ask 17 (question17 (net_of job) p) ∷ [])
     unfolding Numbered
     asked-17 p e = refine-number p ∙ first_no-pass (sizing_questions job x) _ (lit≤ tt, (lit≤ tt, tt)) (sizing-is ∙ e)
 
-    pub refine-place : (p : ℕ) → sizing_number (net_by c job) x ≡ 0 → places (net_by c job) ≤ p → refined_by (NotRefined 17) ≡ refined job x p
-    refine-place p e h =
-        sym (refined-refused job x p 17 (asked-17 p e ∙ first_no-no 17 [] _ (le-ltb p (places (net_of job)) (subst (λ n. places n ≤ p) net-is h))) (λ z. omega arith))
+    pub refine-place : (p : ℕ) (r : Question) → number_of r ≡ 17 → sizing_number (net_by c job) x ≡ 0 → places (net_by c job) ≤ p → refined_by (Err r) ≡ refined job x p
+    refine-place p r n e h =
+        rw n (sym (refined-refused job x p 17 (asked-17 p e ∙ first_no-no 17 [] _ (le-ltb p (places (net_of job)) (subst (λ n. places n ≤ p) net-is h))) (λ z. omega arith)))
 
     pub refine-answer : (p : ℕ) (r : EndsAndDelay) → sizing_number (net_by c job) x ≡ 0 → p < places (net_by c job) → ReachedBy c job (sizing_in (net_by c job) x) p r
-        → refined_by (Best r) ≡ refined job x p
+        → refined_by (Ok r) ≡ refined job x p
     unfolding first_no
     refine-answer p r e h f =
         let t : ReachedAt (allowed (net_of job)) (delay (net_of job)) (sizing_in (net_of job) x) p r = subst (λ n. ReachedAt (allowed n) (delay n) (sizing_in n x) p r) net-is f in
@@ -113,26 +147,26 @@ both-pass false b c d e f = absurd (omega arith)
 
 module _ (job x y : List ℕ) where
   -- what a refusal hands back
-  pub record Refusal (r : List ℕ) : Type 0 where
+  pub record Nothing (r : List ℕ) : Type 0 where
     pub empty : r ≡ chosen job x y
     pub not_second : from_second job x y ≡ false
 
-  pub choose-neither : (choose_number job x y ≡ 0 → ⊥) → Refusal []
+  pub choose-neither : (choose_number job x y ≡ 0 → ⊥) → Nothing []
   unfolding from_second
   choose-neither z = record { empty = sym (chosen-refused job x y z); not_second = rw (ne_eqb (choose_number job x y) 0 z) }
 
   -- what an answer hands back: from the first slice, or from the second
-  pub choose-first : (p : ℕ) → Preferred job x y (First p) → (take p x ≡ chosen job x y) × (from_second job x y ≡ false)
+  pub choose-first : (p : ℕ) → Preferred job x y (Some (First p)) → (take p x ≡ chosen job x y) × (from_second job x y ≡ false)
   unfolding chosen from_second
   choose-first p f = rw (f.0, f.1, f.2) (refl, refl)
 
-  pub choose-second : (p : ℕ) → Preferred job x y (Second p) → (take p y ≡ chosen job x y) × (from_second job x y ≡ true)
+  pub choose-second : (p : ℕ) → Preferred job x y (Some (Second p)) → (take p y ≡ chosen job x y) × (from_second job x y ≡ true)
   unfolding chosen from_second
   choose-second p f = rw (f.0, f.1, f.2) (refl, refl)
 
-  pub prefer-job : (n : ℕ) → n ≡ refusal job → (n ≡ 0 → ⊥) → Preferred job x y Neither
+  pub prefer-job : (r : Question) → number_of r ≡ refusal job → Preferred job x y None
   unfolding choose_number
-  prefer-job n e z f = z (e ∙ sym (job-fails job _ (λ g. z (e ∙ g))) ∙ f)
+  prefer-job r e f = nonzero r (e ∙ sym (job-fails job _ (λ g. nonzero r (e ∙ g))) ∙ f)
 
   module _ {c : Counts} (k : Checked c job) (passes : refusal job ≡ 0) where
     choose-is : choose_number job x y
@@ -140,17 +174,17 @@ module _ (job x y : List ℕ) where
     unfolding choose_number
     choose-is = job-passes job _ passes ∙ ap (λ n. first_no (ask 15 (question15 n x && question15 n y) ∷ ask 16 (question16 n x && question16 n y) ∷ [])) (sym (net-is job x k passes))
 
-    pub prefer-first-no : (n : ℕ) → n ≡ sizing_number (net_by c job) x → (n ≡ 0 → ⊥) → Preferred job x y Neither
+    pub prefer-first-no : (r : Question) → number_of r ≡ sizing_number (net_by c job) x → Preferred job x y None
     unfolding sizing_number first_no
-    prefer-first-no n e z f =
+    prefer-first-no r e f =
         first-fails (question15 (net_by c job) x) (question16 (net_by c job) x) (question15 (net_by c job) y) (question16 (net_by c job) y)
-        (λ g. z (e ∙ g)) (sym choose-is ∙ f)
+        (λ g. nonzero r (e ∙ g)) (sym choose-is ∙ f)
 
-    pub prefer-second-no : (n : ℕ) → n ≡ sizing_number (net_by c job) y → (n ≡ 0 → ⊥) → Preferred job x y Neither
+    pub prefer-second-no : (r : Question) → number_of r ≡ sizing_number (net_by c job) y → Preferred job x y None
     unfolding sizing_number first_no
-    prefer-second-no n e z f =
+    prefer-second-no r e f =
         second-fails (question15 (net_by c job) x) (question16 (net_by c job) x) (question15 (net_by c job) y) (question16 (net_by c job) y)
-        (λ g. z (e ∙ g)) (sym choose-is ∙ f)
+        (λ g. nonzero r (e ∙ g)) (sym choose-is ∙ f)
 
     places_is : places (net_by c job) ≡ places (net_of job)
     places_is = ap places (net-is job x k passes)
@@ -160,13 +194,13 @@ module _ (job x y : List ℕ) where
       unfolding sizing_number first_no
       number-0 = choose-is ∙ both-pass (question15 (net_by c job) x) (question16 (net_by c job) x) (question15 (net_by c job) y) (question16 (net_by c job) y) ex ey
 
-      pub prefer-first : dx ≤ dy → Preferred job x y (First (places (net_by c job)))
+      pub prefer-first : dx ≤ dy → Preferred job x y (Some (First (places (net_by c job))))
       unfolding first_chosen
       prefer-first h =
           let g : delay (net_of job) (sizing_in (net_of job) x) ≤ delay (net_of job) (sizing_in (net_of job) y) = omega (arith, delay-is job x k passes, delay-is job y k passes) in
           (number-0, le-leb _ _ g, places_is, (number-ranges (net_by c job) x ex).long)
 
-      pub prefer-second : dy < dx → Preferred job x y (Second (places (net_by c job)))
+      pub prefer-second : dy < dx → Preferred job x y (Some (Second (places (net_by c job))))
       unfolding first_chosen
       prefer-second h =
           let g : delay (net_of job) (sizing_in (net_of job) y) < delay (net_of job) (sizing_in (net_of job) x) = omega (arith, delay-is job x k passes, delay-is job y k passes) in

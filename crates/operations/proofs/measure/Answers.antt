@@ -1,47 +1,34 @@
 -- `operations::measure` meets its contract: each way through it is the definition.
-use mathlib.Core.Path.{◌≡◌, sym, ◌∙◌}
-use native.Mathlib.Omega.{arith}
-use Rattle.net.specs.Net.{net_by}
+use mathlib.Core.Path.{sym}
+use Rattle.std.proofs.lemmas.Result.{err_from_is_err_and}
 use Rattle.allowed.proofs.Numbers.{number-ranges}
 use Rattle.operations.proofs.Cases.{measure-job, measure-sizing, measure-answer}
 use Rattle.operations.proofs.measure.Goals as goal
 
-pub returns-then-checked-ne0 : goal.returns-then-checked-ne0
-returns-then-checked-ne0 c =
-    let b = c in
-    let k = c.check-checked in
-    record { answer = measure-job b.args.job.now b.args.sizing.now k.result.number k.ensures.number (λ e. omega arith); refusal = omega arith }
+pub returns-in_err-checked : goal.returns-in_err-checked
+returns-in_err-checked c =
+    let p = err_from_is_err_and c.from_residual.result c.from_residual.ensures.1 in
+    rw (p.1, p.2) (measure-job c.args.job.now c.args.sizing.now c.in_err-checked.field-0.0.refusal c.in_err-checked.ensures.number)
 
-pub sizing_number-number-requires : goal.sizing_number-number-requires
-sizing_number-number-requires c =
-    let b = c in
-    let k = c.check-checked in
-    let z : k.result.number ≡ 0 = omega arith in
-    (k.ensures.passed z).held
+pub returns-in_err-check_sizing : goal.returns-in_err-check_sizing
+returns-in_err-check_sizing c =
+    let k = c.in_ok-checked.ensures in
+    let p = err_from_is_err_and c.from_residual-in_err-check_sizing.result c.from_residual-in_err-check_sizing.ensures.1 in
+    rw (p.1, p.2)
+    (measure-sizing c.args.job.now c.args.sizing.now (rw k.passed.bytes at c.in_ok-checked.field-0.job.checked) (sym k.number)
+    c.in_err-check_sizing.field-0.0 (rw k.passed.bytes at c.in_err-check_sizing.ensures))
 
-pub returns-then-number-ne0 : goal.returns-then-number-ne0
-returns-then-number-ne0 c =
-    let b = c in
-    let k = c.check-checked in
-    let z : k.result.number ≡ 0 = omega arith in
-    record { answer = measure-sizing b.args.job.now b.args.sizing.now (k.ensures.passed z) (sym k.ensures.number ∙ z) c.sizing_number-number.result c.sizing_number-number.ensures (λ e. omega arith); refusal = omega arith }
-
-pub figures-requires : goal.figures-requires
-figures-requires c =
-    let b = c in
-    let k = c.check-checked in
-    let z : k.result.number ≡ 0 = omega arith in
-    let y : c.sizing_number-number.result ≡ 0 = omega arith in
-    record { ready = record { checked = k.ensures.passed z; in_ranges = number-ranges (net_by k.result.counts b.args.job.now) b.args.sizing.now (sym c.sizing_number-number.ensures ∙ y) }; linked_by = k.ensures.linked z; sink_weights = k.ensures.weighed z }
+pub invariant_of-net : goal.invariant_of-net
+invariant_of-net c =
+    let j = c.in_ok-checked.field-0.job in
+    let k = c.in_ok-checked.ensures in
+    record {
+      ready = record { checked = j.checked; in_ranges = number-ranges _ c.args.sizing.now (sym c.in_ok-check_sizing.ensures) };
+      weighed = rw k.passed.bytes k.passed.weighed;
+    }
 
 pub returns : goal.returns
 returns c =
-    let b = c in
-    let k = c.check-checked in
-    let z : k.result.number ≡ 0 = omega arith in
-    let y : c.sizing_number-number.result ≡ 0 = omega arith in
-    record {
-      answer = measure-answer b.args.job.now b.args.sizing.now (k.ensures.passed z) (sym k.ensures.number ∙ z) c.figures.result.delay.0 c.figures.result.load.0
-          (sym c.sizing_number-number.ensures ∙ y) c.figures.ensures.delay c.figures.ensures.load;
-      refusal = tt;
-    }
+    let k = c.in_ok-checked.ensures in
+    measure-answer c.args.job.now c.args.sizing.now (rw k.passed.bytes at c.in_ok-checked.field-0.job.checked) (sym k.number) c.figures.result
+    (sym (rw k.passed.bytes at c.in_ok-check_sizing.ensures)) (rw k.passed.bytes at c.figures.ensures.delay) (rw k.passed.bytes at c.figures.ensures.load)

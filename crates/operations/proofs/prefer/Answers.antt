@@ -1,97 +1,71 @@
 -- `operations::prefer` meets its contract: each way through it is the definition.
-use mathlib.Core.Path.{◌≡◌, sym, ◌∙◌}
-use native.Mathlib.Omega.{arith}
-use Rattle.net.specs.Net.{net_by}
+use mathlib.Core.Path.{sym, ap, ◌∙◌}
+use Rattle.std.proofs.Common.{rules}
 use Rattle.allowed.proofs.Numbers.{number-ranges}
-use Rattle.operations.proofs.Cases.{prefer-job, prefer-first-no, prefer-second-no, prefer-first, prefer-second}
+use Rattle.refusal.specs.Numbers.{refusal_number}
+use Rattle.questions.specs.Check.{check_number}
+use Rattle.operations.proofs.Cases.{was_ok, was_err, prefer-job, prefer-first-no, prefer-second-no, prefer-first, prefer-second}
 use Rattle.operations.proofs.prefer.Goals as goal
 
-pub returns-then-checked-ne0 : goal.returns-then-checked-ne0
-returns-then-checked-ne0 c =
-    let b = c in
-    let k = c.check-checked in
-    prefer-job b.args.job.now b.args.x.now b.args.y.now k.result.number k.ensures.number (λ e. omega arith)
+pub returns-in_err-job : goal.returns-in_err-job
+returns-in_err-job c =
+    let f = was_err c.check.result c.in_err-job.ensures.value in
+    rw c.from_residual.ensures (prefer-job c.args.job.now c.args.x.now c.args.y.now f.0.refusal (sym (ap check_number f.1) ∙ c.check.ensures.number))
 
-pub sizing_number-requires : goal.sizing_number-requires
-sizing_number-requires c =
-    let k = c.check-checked in
-    let z : k.result.number ≡ 0 = omega arith in
-    (k.ensures.passed z).held
+pub returns-in_err-ok : goal.returns-in_err-ok
+returns-in_err-ok c =
+    let j = c.in_ok-job.field-0.job in
+    let k = rw (was_ok c.check.result c.in_ok-job.field-0 c.in_ok-job.ensures.value) at c.check.ensures in
+    let f = was_err c.check_sizing.result c.in_err-ok.ensures.value in
+    rw c.from_residual-in_err-ok.ensures
+    (prefer-first-no c.args.job.now c.args.x.now c.args.y.now (rw k.passed.bytes at j.checked) (sym k.number) f.0
+    (rw k.passed.bytes at (sym (ap refusal_number f.1) ∙ c.check_sizing.ensures)))
 
-pub returns-then-sizing_number-ne0 : goal.returns-then-sizing_number-ne0
-returns-then-sizing_number-ne0 c =
-    let b = c in
-    let k = c.check-checked in
-    let z : k.result.number ≡ 0 = omega arith in
-    let n = c.sizing_number in
-    prefer-first-no b.args.job.now b.args.x.now b.args.y.now (k.ensures.passed z) (sym k.ensures.number ∙ z) n.result n.ensures (λ e. omega arith)
+pub returns-in_err-ok-2 : goal.returns-in_err-ok-2
+returns-in_err-ok-2 c =
+    let j = c.in_ok-job.field-0.job in
+    let k = rw (was_ok c.check.result c.in_ok-job.field-0 c.in_ok-job.ensures.value) at c.check.ensures in
+    let f = was_err c.check_sizing-2.result c.in_err-ok-2.ensures.value in
+    rw c.from_residual-in_err-ok-2.ensures
+    (prefer-second-no c.args.job.now c.args.x.now c.args.y.now (rw k.passed.bytes at j.checked) (sym k.number) f.0
+    (rw k.passed.bytes at (sym (ap refusal_number f.1) ∙ c.check_sizing-2.ensures)))
 
-pub sizing_number-requires-2 : goal.sizing_number-requires-2
-sizing_number-requires-2 c =
-    let k = c.check-checked in
-    let z : k.result.number ≡ 0 = omega arith in
-    (k.ensures.passed z).held
+pub invariant_of-first : goal.invariant_of-first
+invariant_of-first c =
+    let j = c.in_ok-job.field-0.job in
+    let k = rw (was_ok c.check.result c.in_ok-job.field-0 c.in_ok-job.ensures.value) at c.check.ensures in
+    let e = rw (was_ok c.check_sizing.result c.in_ok-ok.field-0 c.in_ok-ok.ensures.value) at c.check_sizing.ensures in
+    record {
+      ready = record { checked = j.checked; in_ranges = number-ranges _ c.args.x.now (sym e) };
+      weighed = rw k.passed.bytes k.passed.weighed;
+    }
 
-pub returns-then-sizing_number-ne0-2 : goal.returns-then-sizing_number-ne0-2
-returns-then-sizing_number-ne0-2 c =
-    let b = c in
-    let k = c.check-checked in
-    let z : k.result.number ≡ 0 = omega arith in
-    let n = c.sizing_number-2 in
-    prefer-second-no b.args.job.now b.args.x.now b.args.y.now (k.ensures.passed z) (sym k.ensures.number ∙ z) n.result n.ensures (λ e. omega arith)
+pub invariant_of-second : goal.invariant_of-second
+invariant_of-second c =
+    let j = c.in_ok-job.field-0.job in
+    let k = rw (was_ok c.check.result c.in_ok-job.field-0 c.in_ok-job.ensures.value) at c.check.ensures in
+    let e = rw (was_ok c.check_sizing-2.result c.in_ok-ok-2.field-0 c.in_ok-ok-2.ensures.value) at c.check_sizing-2.ensures in
+    record {
+      ready = record { checked = j.checked; in_ranges = number-ranges _ c.args.y.now (sym e) };
+      weighed = rw k.passed.bytes k.passed.weighed;
+    }
 
-pub overflow_add-places : goal.overflow_add-places
-overflow_add-places c =
-    let k = c.check-checked in
-    let z : k.result.number ≡ 0 = omega arith in
-    omega (arith, (k.ensures.passed z).few_stages, (k.ensures.passed z).few_segments)
-
-pub overflow_add-places-2 : goal.overflow_add-places-2
-overflow_add-places-2 c =
-    let k = c.check-checked in
-    let z : k.result.number ≡ 0 = omega arith in
-    omega (arith, (k.ensures.passed z).few_stages, (k.ensures.passed z).few_segments, (k.ensures.passed z).few_repeaters)
-
-pub delay-of_x-requires : goal.delay-of_x-requires
-delay-of_x-requires c =
-    let b = c in
-    let k = c.check-checked in
-    let z : k.result.number ≡ 0 = omega arith in
-    let n = c.sizing_number in
-    let u : n.result ≡ 0 = omega (arith, n.ensures) in
-    record { ready = record { checked = k.ensures.passed z; in_ranges = number-ranges (net_by k.result.counts b.args.job.now) b.args.x.now (sym n.ensures ∙ u) }; linked_by = k.ensures.linked z; sink_weights = k.ensures.weighed z }
-
-pub delay-of_y-requires : goal.delay-of_y-requires
-delay-of_y-requires c =
-    let b = c in
-    let k = c.check-checked in
-    let z : k.result.number ≡ 0 = omega (arith, c.if-checked-ne0.false) in
-    let m = c.sizing_number-2 in
-    let v : m.result ≡ 0 = omega (arith, c.if-sizing_number-ne0-2.false) in
-    record { ready = record { checked = k.ensures.passed z; in_ranges = number-ranges (net_by k.result.counts b.args.job.now) b.args.y.now (sym m.ensures ∙ v) }; linked_by = k.ensures.linked z; sink_weights = k.ensures.weighed z }
-
-pub returns-then-of_x-of_y : goal.returns-then-of_x-of_y
-returns-then-of_x-of_y c =
-    let b = c in
-    let k = c.check-checked in
-    let z : k.result.number ≡ 0 = omega (arith, c.if-checked-ne0.false) in
-    let n = c.sizing_number in
-    let u : n.result ≡ 0 = omega (arith, c.if-sizing_number-ne0.false) in
-    let m = c.sizing_number-2 in
-    let v : m.result ≡ 0 = omega (arith, c.if-sizing_number-ne0-2.false) in
-    let d = c.delay-of_x in
-    let e = c.delay-of_y in
-    prefer-first b.args.job.now b.args.x.now b.args.y.now (k.ensures.passed z) (sym k.ensures.number ∙ z) (sym n.ensures ∙ u) (sym m.ensures ∙ v) d.result.0 e.result.0 d.ensures e.ensures (omega arith)
+pub returns-then-le : goal.returns-then-le
+returns-then-le c =
+    let j = c.in_ok-job.field-0.job in
+    let k = rw (was_ok c.check.result c.in_ok-job.field-0 c.in_ok-job.ensures.value) at c.check.ensures in
+    let ex = rw (was_ok c.check_sizing.result c.in_ok-ok.field-0 c.in_ok-ok.ensures.value) at c.check_sizing.ensures in
+    let ey = rw (was_ok c.check_sizing-2.result c.in_ok-ok-2.field-0 c.in_ok-ok-2.ensures.value) at c.check_sizing-2.ensures in
+    rw c.places-places.ensures.0
+    (prefer-first c.args.job.now c.args.x.now c.args.y.now (rw k.passed.bytes at j.checked) (sym k.number) (rw k.passed.bytes at (sym ex)) (rw k.passed.bytes at (sym ey))
+    c.delay.result.0 c.delay-2.result.0 (rw k.passed.bytes at c.delay.ensures) (rw k.passed.bytes at c.delay-2.ensures) (search rules))
 
 pub returns : goal.returns
 returns c =
-    let b = c in
-    let k = c.check-checked in
-    let z : k.result.number ≡ 0 = omega (arith, c.if-checked-ne0.false) in
-    let n = c.sizing_number in
-    let u : n.result ≡ 0 = omega (arith, c.if-sizing_number-ne0.false) in
-    let m = c.sizing_number-2 in
-    let v : m.result ≡ 0 = omega (arith, c.if-sizing_number-ne0-2.false) in
-    let d = c.delay-of_x in
-    let e = c.delay-of_y in
-    prefer-second b.args.job.now b.args.x.now b.args.y.now (k.ensures.passed z) (sym k.ensures.number ∙ z) (sym n.ensures ∙ u) (sym m.ensures ∙ v) d.result.0 e.result.0 d.ensures e.ensures (omega arith)
+    let j = c.in_ok-job.field-0.job in
+    let k = rw (was_ok c.check.result c.in_ok-job.field-0 c.in_ok-job.ensures.value) at c.check.ensures in
+    let ex = rw (was_ok c.check_sizing.result c.in_ok-ok.field-0 c.in_ok-ok.ensures.value) at c.check_sizing.ensures in
+    let ey = rw (was_ok c.check_sizing-2.result c.in_ok-ok-2.field-0 c.in_ok-ok-2.ensures.value) at c.check_sizing-2.ensures in
+    rw c.places-places.ensures.0
+    (prefer-second c.args.job.now c.args.x.now c.args.y.now (rw k.passed.bytes at j.checked) (sym k.number) (rw k.passed.bytes at (sym ex)) (rw k.passed.bytes at (sym ey))
+    c.delay.result.0 c.delay-2.result.0 (rw k.passed.bytes at c.delay.ensures) (rw k.passed.bytes at c.delay-2.ensures) (search rules))
