@@ -1,11 +1,12 @@
 -- Indices that are passed over, one after the other.
 use mathlib.Core.Logic.{⊎_elim}
-use mathlib.Core.Path.{◌≡◌}
-use Prim.Native.Nat.{ℕ, ◌+◌, ◌≤◌, ◌<◌}
+use mathlib.Core.Path.{◌≡◌, refl}
+use Prim.Native.Nat.{ℕ, suc, ◌+◌, ◌≤◌, ◌<◌}
 use native.Mathlib.Nat.{eq-or-lt_of_le}
 use native.Mathlib.Omega.{arith}
 use Rattle.net.specs.Driving.{Driving, cost}
-use Rattle.free.specs.Searching.{PassedTo}
+use Rattle.std.specs.Prelude.{Option, Some, None}
+use Rattle.free.specs.Searching.{PassedTo, first_of}
 
 module _ {net : Driving} {w u p l added least low top : ℕ} where
   pub passing-start : low ≤ top → PassedTo net w u p l added least low top low
@@ -22,3 +23,8 @@ module _ {net : Driving} {w u p l added least low top : ℕ} where
     where
       le : (j : ℕ) → j < k + 1 → j ≤ k
       le j c = omega arith
+
+-- where no index is left, all are passed over
+pub first-none : (top : ℕ) (o : Option ℕ) → ((k : ℕ) → o ≡ Some k → ⊥) → first_of top o ≡ suc top
+first-none top (Some k) n = absurd (n k refl)
+first-none top None n = refl

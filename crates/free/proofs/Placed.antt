@@ -18,6 +18,12 @@ use Rattle.place.proofs.Loads.{loads-at}
 use Rattle.free.specs.declared.FreePlace.{FreePlace}
 use Rattle.free.specs.Searching.{Between, BothLong, FreePlaceAt, AllFit, PassedBy}
 
+-- the load that has arrived behind the place before `left`, by the table of loads
+pub gathered-at : (g : List Capacitance) (left load d : ℕ) → 0 < left → load ≡ d + (get_or g left (record { 0 = 0 })).0 → load ≡ d + at (loads g) (left - 1 + 1)
+gathered-at g left load d some e =
+    let z : left ≡ left - 1 + 1 = omega arith in
+    rw (← z) (rw (loads-at g left) at e)
+
 module _ {c : Counts} {job orders weights upstream driven lower upper : List ℕ} {t : ℕ} {r : FreePlace} (f : FreePlaceAt c job orders weights upstream driven lower upper t r) where
   pub table-at : TableOf c job r.spot.place r.spot.table
   table-at = rw f.spot.place f.spot.table
@@ -32,9 +38,9 @@ module _ {c : Counts} {job orders weights upstream driven lower upper : List ℕ
   pub step-at : (k load : ℕ) (s : PlaceStep) → StepOf (placed_by c job) r.spot.weight r.spot.before.0 r.spot.place k load s → StepOf (placed_by c job) (at weights t) (at upstream t) (at orders t) k load s
   step-at k load s h = rw (f.spot.weight, f.spot.before, f.spot.place) at h
 
-  -- the load that it drives
-  pub load_at_lem : (load arrived : ℕ) → load ≡ r.driven.0 + arrived → load ≡ at driven t + arrived
-  load_at_lem load arrived e = rw f.driven at e
+  -- the load that it drives, with what has arrived behind the place before `left`
+  pub loaded : (g : List Capacitance) (left load : ℕ) → 0 < left → load ≡ r.driven.0 + (get_or g left (record { 0 = 0 })).0 → load ≡ at driven t + at (loads g) (left - 1 + 1)
+  loaded g left load some e = rw f.driven at (gathered-at g left load r.driven.0 some e)
 
   -- its indices
   pub inside-at : (k : ℕ) → k ≤ r.range.highest → k ≤ at upper t
@@ -51,12 +57,6 @@ module _ {c : Counts} {job orders weights upstream driven lower upper : List ℕ
 
   pub passed-at : (load added least k : ℕ) → PassedBy c job r.spot.weight r.spot.before.0 r.spot.place load added least r.range.lowest r.range.highest k → PassedBy c job (at weights t) (at upstream t) (at orders t) load added least (at lower t) (at upper t) k
   passed-at load added least k h = rw (f.spot.weight, f.spot.before, f.spot.place, f.low, f.top) at h
-
--- the load that has arrived behind the place before `left`, by the table of loads
-pub gathered-at : (g : List Capacitance) (left load d : ℕ) → 0 < left → load ≡ d + (get_or g left (record { 0 = 0 })).0 → load ≡ d + at (loads g) (left - 1 + 1)
-gathered-at g left load d some e =
-    let z : left ≡ left - 1 + 1 = omega arith in
-    rw (← z) (rw (loads-at g left) at e)
 
 -- two bounds have an index for each place
 pub between-long : {c : Counts} {job lower upper : List ℕ} → Between c job lower upper → BothLong c lower upper

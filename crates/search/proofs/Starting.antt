@@ -25,10 +25,10 @@ module _ {c : Counts} {job orders weights upstream driven ups skips lower upper 
   none-priced : priced_from net lower upper upstream lower (at skips net.places) ≡ 0
   none-priced = priced-skip net lower upper skips r.skipped net.places (omega arith) lower upstream ∙ after_none net.places _
 
-  pub start-sized : (fixed : ℕ) {x lean wide : List ℕ} → x ≡ lower → fixed ≡ fixed_from (driving_by c job) lower upper driven 0 → length lean ≡ (driving_by c job).places → length wide ≡ (driving_by c job).places
-      → Sized (driving_by c job) lower upper upstream driven ups (at skips (driving_by c job).places) fixed x (replicate 77 0) lean wide
-  start-sized fixed e f m n =
-      rw e
+  pub start-sized : (fixed : ℕ) (gathered : List ℕ) {x lean wide : List ℕ} → gathered ≡ replicate 77 0 → x ≡ lower → fixed ≡ fixed_from (driving_by c job) lower upper driven 0 → length lean ≡ (driving_by c job).places → length wide ≡ (driving_by c job).places
+      → Sized (driving_by c job) lower upper upstream driven ups (at skips (driving_by c job).places) fixed x gathered lean wide
+  start-sized fixed gathered z e f m n =
+      rw (z, e)
       record {
         few = skip-le lower upper net.places skips r.skipped net.places (omega arith);
         allowed = r.lower_allowed;

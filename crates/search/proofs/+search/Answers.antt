@@ -1,274 +1,223 @@
--- `search::search` meets its contract: the loop has the sizings with the indices passed, and each call has fewer places left.
-use Rattle.net.proofs.InOrder.{allowed-by}
-use Rattle.free.proofs.Calls.{few, place-few, load-most, weight-most, resistance-most, node-low, others-small, rest-low, rest-free, small, begin, top-high, all_fit, passed-by, passed_to, high-at, shown-small, fits, ready, done, ended}
-use Rattle.free.proofs.Placed.{rows-at, length_at, limits-at, top-limits-at, step-at, load_at_lem, inside-at, outside-at, range_at, fit_at, passed-at}
-use Rattle.net.specs.Order.{driving_by}
-use Rattle.lattice.specs.Lists.{at}
-use lib.Seq.{set-set, set-get_or}
-use lib.ListN.{set}
-use native.Mathlib.Omega.{arith}
+-- The loop has the sizings with the indices passed, and each call has fewer places left.
+use mathlib.Core.Path.{◌≡◌, refl, ap, ◌∙◌}
+use mathlib.Core.Bool.{true}
 use mathlib.Core.List.{List}
-use mathlib.Core.Path.{◌≡◌, refl, sym, ap, ◌∙◌}
-use Prim.Native.Nat.{ℕ, ◌-◌}
+use Prim.Native.Nat.{ℕ, suc, ◌+◌, ◌-◌}
+use native.Mathlib.Omega.{arith}
+use lib.ListN.{set}
+use lib.Seq.{set-set, set-get_or}
+use Rattle.quantity.specs.declared.Capacitance.{Capacitance}
+use Rattle.lattice.specs.Lists.{at}
+use Rattle.net.proofs.InOrder.{allowed-by}
+use Rattle.place.specs.Figures.{loads}
+use Rattle.place.specs.Held.{free}
+use Rattle.place.proofs.Loads.{loads-at, loads-set}
+use Rattle.envelope.specs.declared.Kept.{Kept}
+use Rattle.envelope.specs.Kept.{found_of, SameSpace}
+use Rattle.free.specs.ByTables.{net_of, SizedBy, SearchedFrom}
+use Rattle.free.proofs.Turns.{Turning}
+use Rattle.free.proofs.Passing.{first-none}
+use Rattle.free.proofs.Calls.{few, place-few, load-most, weight-most, resistance-most, node-low, others-small, rest-low, rest-free, small, begin, top-high, all_fit, passed-by, passed_to, high-at, shown-small, fits, ready, done, ended}
+use Rattle.free.proofs.Placed.{limits-at, top-limits-at, step-at, gathered-at, loaded, inside-at, outside-at, range_at, fit_at, passed-at}
 use Rattle.search.proofs.+search.Goals as goal
-
-pub overflow_sub-t : goal.overflow_sub-t
-overflow_sub-t t c =
-    let b = c in
-    omega (arith, b.requires.more_free.0)
-
-pub free_place-here-requires : goal.free_place-here-requires
-free_place-here-requires t c =
-    let b = c in
-    record { checked = b.requires.prepared.checked; places_in_order = b.requires.prepared.ordered; both_long = (omega (arith, ((allowed-by (driving_by b.args.counts b.args.job.now) b.args.lower.now).0 b.requires.prepared.lower_allowed).long), omega (arith, ((allowed-by (driving_by b.args.counts b.args.job.now) b.args.upper.now).0 b.requires.prepared.upper_allowed).long)); t_bound = few b.requires.prepared b.requires.sized_by b.args.least.0 b.requires.more_free.0 b.requires.more_free.1 }
-
-pub offset_bounds-skips-t : goal.offset_bounds-skips-t
-offset_bounds-skips-t t c =
-    let b = c in
-    omega (arith, b.requires.sized_by.few, b.requires.more_free.0, b.requires.prepared.checked.few_stages, b.requires.prepared.checked.few_segments, b.requires.prepared.checked.few_repeaters)
-
-pub bounds-skips-t : goal.bounds-skips-t
-bounds-skips-t t c =
-    let b = c in
-    omega (arith, b.requires.sized_by.few, b.requires.more_free.0, b.requires.prepared.checked.few_stages, b.requires.prepared.checked.few_segments, b.requires.prepared.checked.few_repeaters)
-
-pub overflow_sub-next : goal.overflow_sub-next
-overflow_sub-next t c =
-    let b = c in
-    omega (arith, b.requires.more_free.2)
+use Rattle.search.proofs.+search.Goals.{After-add, then-further-eq0+in-Some, then-further-eq0+in_default, else-further-eq0}
 
 pub free_place-then-requires : goal.free_place-then-requires
-free_place-then-requires t c =
-    let b = c in
-    record { checked = b.requires.prepared.checked; places_in_order = b.requires.prepared.ordered; both_long = (omega (arith, ((allowed-by (driving_by b.args.counts b.args.job.now) b.args.lower.now).0 b.requires.prepared.lower_allowed).long), omega (arith, ((allowed-by (driving_by b.args.counts b.args.job.now) b.args.upper.now).0 b.requires.prepared.upper_allowed).long)); t_bound = omega (arith, rest-low b.requires.prepared b.requires.sized_by b.args.least.0 b.requires.more_free.0 b.requires.more_free.1, few b.requires.prepared b.requires.sized_by b.args.least.0 b.requires.more_free.0 b.requires.more_free.1) }
+free_place-then-requires t c = omega (arith, rest-low c.args.tables.now.prepared c.requires.sized_by c.args.kept.now.least.0 c.requires.more_free.0 c.requires.more_free.1, few c.args.tables.now.prepared c.requires.sized_by c.args.kept.now.least.0 c.requires.more_free.0 c.requires.more_free.1)
 
-pub offset_bounds-skips-next : goal.offset_bounds-skips-next
-offset_bounds-skips-next t c =
-    let b = c in
-    omega (arith, rest-low b.requires.prepared b.requires.sized_by b.args.least.0 b.requires.more_free.0 b.requires.more_free.1, b.requires.sized_by.few, b.requires.more_free.0, b.requires.prepared.checked.few_stages, b.requires.prepared.checked.few_segments, b.requires.prepared.checked.few_repeaters)
+pub offset_bounds-tables-next : goal.offset_bounds-tables-next
+offset_bounds-tables-next t c =
+    omega (arith, c.requires.sized_by.few, c.requires.more_free.0, c.args.tables.now.prepared.checked.few_stages, c.args.tables.now.prepared.checked.few_segments, c.args.tables.now.prepared.checked.few_repeaters, rest-low c.args.tables.now.prepared c.requires.sized_by c.args.kept.now.least.0 c.requires.more_free.0 c.requires.more_free.1)
 
-pub bounds-skips-next : goal.bounds-skips-next
-bounds-skips-next t c =
-    let b = c in
-    omega (arith, rest-low b.requires.prepared b.requires.sized_by b.args.least.0 b.requires.more_free.0 b.requires.more_free.1, b.requires.sized_by.few, b.requires.more_free.0, b.requires.prepared.checked.few_stages, b.requires.prepared.checked.few_segments, b.requires.prepared.checked.few_repeaters)
+pub bounds-tables-next : goal.bounds-tables-next
+bounds-tables-next t c =
+    omega (arith, c.requires.sized_by.few, c.requires.more_free.0, c.args.tables.now.prepared.checked.few_stages, c.args.tables.now.prepared.checked.few_segments, c.args.tables.now.prepared.checked.few_repeaters, rest-low c.args.tables.now.prepared c.requires.sized_by c.args.kept.now.least.0 c.requires.more_free.0 c.requires.more_free.1)
 
-pub overflow_add-t : goal.overflow_add-t
-overflow_add-t t c =
-    let b = c in
-    omega (arith, b.requires.sized_by.few, b.requires.more_free.0, b.requires.prepared.checked.few_stages, b.requires.prepared.checked.few_segments, b.requires.prepared.checked.few_repeaters)
-
-pub offset_bounds-gathered-t : goal.offset_bounds-gathered-t
-offset_bounds-gathered-t t c =
-    let b = c in
-    omega (arith, b.requires.sized_by.few, b.requires.more_free.0, b.requires.prepared.checked.few_stages, b.requires.prepared.checked.few_segments, b.requires.prepared.checked.few_repeaters)
-
-pub bounds-gathered-t : goal.bounds-gathered-t
-bounds-gathered-t t c =
-    let b = c in
-    omega (arith, b.requires.sized_by.few, b.requires.more_free.0, b.requires.prepared.checked.few_stages, b.requires.prepared.checked.few_segments, b.requires.prepared.checked.few_repeaters)
-
-pub add_capacitance-load-requires : goal.add_capacitance-load-requires
-add_capacitance-load-requires t c =
-    let b = c in
-    let f = c.free_place-here.ensures in
-    omega (arith, f.driven, load-most b.requires.prepared b.requires.sized_by b.args.least.0 b.requires.more_free.0 b.requires.more_free.1 _ refl)
-
-pub offset_bounds-ups-t : goal.offset_bounds-ups-t
-offset_bounds-ups-t t c =
-    let b = c in
-    omega (arith, b.requires.sized_by.few, b.requires.more_free.0, b.requires.prepared.checked.few_stages, b.requires.prepared.checked.few_segments, b.requires.prepared.checked.few_repeaters)
-
-pub bounds-ups-t : goal.bounds-ups-t
-bounds-ups-t t c =
-    let b = c in
-    omega (arith, b.requires.sized_by.few, b.requires.more_free.0, b.requires.prepared.checked.few_stages, b.requires.prepared.checked.few_segments, b.requires.prepared.checked.few_repeaters)
+pub add-load-requires : goal.add-load-requires
+add-load-requires t c =
+    omega (arith, c.free_place-here.ensures.driven, gathered-at c.args.gathered.now c.args.left _ 0 (omega arith) refl, load-most c.args.tables.now.prepared c.requires.sized_by c.args.kept.now.least.0 c.requires.more_free.0 c.requires.more_free.1 _ refl)
 
 pub offset_bounds-gathered-node : goal.offset_bounds-gathered-node
 offset_bounds-gathered-node t c =
-    let b = c in
-    omega (arith, node-low b.requires.prepared b.requires.sized_by b.args.least.0 b.requires.more_free.0 b.requires.more_free.1, b.requires.sized_by.few, b.requires.more_free.0, b.requires.prepared.checked.few_stages, b.requires.prepared.checked.few_segments, b.requires.prepared.checked.few_repeaters)
+    omega (arith, c.requires.sized_by.few, c.requires.more_free.0, c.args.tables.now.prepared.checked.few_stages, c.args.tables.now.prepared.checked.few_segments, c.args.tables.now.prepared.checked.few_repeaters, node-low c.args.tables.now.prepared c.requires.sized_by c.args.kept.now.least.0 c.requires.more_free.0 c.requires.more_free.1)
 
 pub bounds-gathered-node : goal.bounds-gathered-node
 bounds-gathered-node t c =
-    let b = c in
-    omega (arith, node-low b.requires.prepared b.requires.sized_by b.args.least.0 b.requires.more_free.0 b.requires.more_free.1, b.requires.sized_by.few, b.requires.more_free.0, b.requires.prepared.checked.few_stages, b.requires.prepared.checked.few_segments, b.requires.prepared.checked.few_repeaters)
+    omega (arith, c.requires.sized_by.few, c.requires.more_free.0, c.args.tables.now.prepared.checked.few_stages, c.args.tables.now.prepared.checked.few_segments, c.args.tables.now.prepared.checked.few_repeaters, node-low c.args.tables.now.prepared c.requires.sized_by c.args.kept.now.least.0 c.requires.more_free.0 c.requires.more_free.1)
+
+pub overflow_add-k-end : goal.overflow_add-k-end
+overflow_add-k-end t c = omega (arith, c.free_place-here.ensures.top, small c.args.tables.now.prepared c.requires.sized_by c.args.kept.now.least.0 c.requires.more_free.0 c.requires.more_free.1)
 
 pub loop-k-init : goal.loop-k-init
 loop-k-init t c =
-    let b = c in
-    let f = c.free_place-here.ensures in
-    (rw f.low (begin b.requires.prepared b.requires.sized_by b.args.least.0 b.requires.more_free.0 b.requires.more_free.1), λ v. refl)
+    record {
+      turning = rw c.free_place-here.ensures.low (begin c.args.tables.now.prepared c.requires.sized_by c.args.kept.now.least.0 c.requires.more_free.0 c.requires.more_free.1);
+      same_space = record { lean = refl; wide = refl; lean_long = refl; wide_long = refl };
+      same_loads = λ v. refl;
+    }
 
-pub step-step-requires : goal.step-step-requires
-step-step-requires t c =
-    let b = c in
+pub step-step-requires-clause-step_in_limits : goal.step-step-requires-clause-step_in_limits
+step-step-requires-clause-step_in_limits t c =
     let l = c.loop-k in
     let f = c.free_place-here.ensures in
-    record { checked = b.requires.prepared.checked; rows_value = rows-at f; length_at = length_at f; step_in_limits = limits-at f l.k c.add_capacitance-load.result.0 (place-few b.requires.prepared b.requires.sized_by b.args.least.0 b.requires.more_free.0 b.requires.more_free.1, high-at b.requires.prepared b.requires.sized_by b.args.least.0 b.requires.more_free.0 b.requires.more_free.1 l.invariant.0 (inside-at f l.k c.loop-k-test.true), weight-most b.requires.prepared b.requires.sized_by b.args.least.0 b.requires.more_free.0 b.requires.more_free.1, resistance-most b.requires.prepared b.requires.sized_by b.args.least.0 b.requires.more_free.0 b.requires.more_free.1, load-most b.requires.prepared b.requires.sized_by b.args.least.0 b.requires.more_free.0 b.requires.more_free.1 _ (load_at_lem f c.add_capacitance-load.result.0 _ c.add_capacitance-load.ensures.0)) }
+    limits-at f c.from.result c.add-load.result.0 (
+      place-few c.args.tables.now.prepared c.requires.sized_by c.args.kept.now.least.0 c.requires.more_free.0 c.requires.more_free.1,
+      rw c.from.ensures (high-at c.args.tables.now.prepared c.requires.sized_by c.args.kept.now.least.0 c.requires.more_free.0 c.requires.more_free.1 l.invariant.turning (inside-at f l.k (omega arith))),
+      weight-most c.args.tables.now.prepared c.requires.sized_by c.args.kept.now.least.0 c.requires.more_free.0 c.requires.more_free.1,
+      resistance-most c.args.tables.now.prepared c.requires.sized_by c.args.kept.now.least.0 c.requires.more_free.0 c.requires.more_free.1,
+      load-most c.args.tables.now.prepared c.requires.sized_by c.args.kept.now.least.0 c.requires.more_free.0 c.requires.more_free.1 _ (loaded f c.args.gathered.now c.args.left _ c.requires.more_free.0 c.add-load.ensures.0),
+    )
 
-pub add_delay-reached-requires : goal.add_delay-reached-requires
-add_delay-reached-requires t c =
-    let b = c in
+pub add-reached-requires : goal.add-reached-requires
+add-reached-requires t c =
     let l = c.loop-k in
     let f = c.free_place-here.ensures in
-    fits b.requires.prepared b.requires.sized_by b.args.least.0 b.requires.more_free.0 b.requires.more_free.1 l.invariant.0 (inside-at f l.k c.loop-k-test.true) _ (load_at_lem f c.add_capacitance-load.result.0 _ c.add_capacitance-load.ensures.0) c.step-step.result (step-at f l.k c.add_capacitance-load.result.0 c.step-step.result c.step-step.ensures)
+    fits c.args.tables.now.prepared c.requires.sized_by c.args.kept.now.least.0 c.requires.more_free.0 c.requires.more_free.1 l.invariant.turning (inside-at f l.k (omega arith)) _ (loaded f c.args.gathered.now c.args.left _ c.requires.more_free.0 c.add-load.ensures.0) c.step-step.result
+    (step-at f l.k c.add-load.result.0 c.step-step.result (rw c.from.ensures at c.step-step.ensures))
 
 pub bounds-x-t : goal.bounds-x-t
 bounds-x-t t c =
-    let b = c in
     let l = c.loop-k in
-    omega (arith, b.requires.sized_by.few, b.requires.more_free.0, ((allowed-by (driving_by b.args.counts b.args.job.now) l.x).0 l.invariant.0.allowed).long)
+    omega (arith, c.requires.sized_by.few, c.requires.more_free.0, ((allowed-by (net_of c.args.tables.now) l.x).0 l.invariant.turning.allowed).long)
 
-pub add_capacitance-all-requires : goal.add_capacitance-all-requires
-add_capacitance-all-requires t c =
-    let b = c in
+pub add-requires : goal.add-requires
+add-requires t c =
     let l = c.loop-k in
     let f = c.free_place-here.ensures in
-    omega (arith, others-small b.requires.prepared b.requires.sized_by b.args.least.0 b.requires.more_free.0 b.requires.more_free.1, shown-small b.requires.prepared b.requires.sized_by b.args.least.0 b.requires.more_free.0 b.requires.more_free.1 l.invariant.0 (inside-at f l.k c.loop-k-test.true) _ (load_at_lem f c.add_capacitance-load.result.0 _ c.add_capacitance-load.ensures.0) c.step-step.result (step-at f l.k c.add_capacitance-load.result.0 c.step-step.result c.step-step.ensures))
+    omega (
+      arith,
+      loads-at c.args.gathered.now (at c.args.tables.now.ups (c.args.left - 1)),
+      others-small c.args.tables.now.prepared c.requires.sized_by c.args.kept.now.least.0 c.requires.more_free.0 c.requires.more_free.1,
+      shown-small c.args.tables.now.prepared c.requires.sized_by c.args.kept.now.least.0 c.requires.more_free.0 c.requires.more_free.1 l.invariant.turning (inside-at f l.k (omega arith)) _ (loaded f c.args.gathered.now c.args.left _ c.requires.more_free.0 c.add-load.ensures.0) c.step-step.result
+          (step-at f l.k c.add-load.result.0 c.step-step.result (rw c.from.ensures at c.step-step.ensures)),
+    )
 
 pub offset_bounds-gathered-node-in-loop-k : goal.offset_bounds-gathered-node-in-loop-k
 offset_bounds-gathered-node-in-loop-k t c =
-    let b = c in
-    omega (arith, node-low b.requires.prepared b.requires.sized_by b.args.least.0 b.requires.more_free.0 b.requires.more_free.1, b.requires.sized_by.few, b.requires.more_free.0, b.requires.prepared.checked.few_stages, b.requires.prepared.checked.few_segments, b.requires.prepared.checked.few_repeaters)
+    omega (arith, c.requires.sized_by.few, c.requires.more_free.0, c.args.tables.now.prepared.checked.few_stages, c.args.tables.now.prepared.checked.few_segments, c.args.tables.now.prepared.checked.few_repeaters, node-low c.args.tables.now.prepared c.requires.sized_by c.args.kept.now.least.0 c.requires.more_free.0 c.requires.more_free.1)
 
 pub bounds-gathered-node-in-loop-k : goal.bounds-gathered-node-in-loop-k
 bounds-gathered-node-in-loop-k t c =
-    let b = c in
-    omega (arith, node-low b.requires.prepared b.requires.sized_by b.args.least.0 b.requires.more_free.0 b.requires.more_free.1, b.requires.sized_by.few, b.requires.more_free.0, b.requires.prepared.checked.few_stages, b.requires.prepared.checked.few_segments, b.requires.prepared.checked.few_repeaters)
-
-pub overflow_add-k : goal.overflow_add-k
-overflow_add-k t c =
-    let b = c in
-    let l = c.loop-k in
-    let f = c.free_place-here.ensures in
-    omega (arith, (inside-at f l.k c.loop-k-test.true), small b.requires.prepared b.requires.sized_by b.args.least.0 b.requires.more_free.0 b.requires.more_free.1)
-
-pub overflow_add-arrived : goal.overflow_add-arrived
-overflow_add-arrived t c =
-    let b = c in
-    omega (arith, rest-low b.requires.prepared b.requires.sized_by b.args.least.0 b.requires.more_free.0 b.requires.more_free.1, b.requires.sized_by.few, b.requires.more_free.0, b.requires.prepared.checked.few_stages, b.requires.prepared.checked.few_segments, b.requires.prepared.checked.few_repeaters)
-
-pub offset_bounds-gathered-next : goal.offset_bounds-gathered-next
-offset_bounds-gathered-next t c =
-    let b = c in
-    omega (arith, rest-low b.requires.prepared b.requires.sized_by b.args.least.0 b.requires.more_free.0 b.requires.more_free.1, b.requires.sized_by.few, b.requires.more_free.0, b.requires.prepared.checked.few_stages, b.requires.prepared.checked.few_segments, b.requires.prepared.checked.few_repeaters)
-
-pub bounds-gathered-next : goal.bounds-gathered-next
-bounds-gathered-next t c =
-    let b = c in
-    omega (arith, rest-low b.requires.prepared b.requires.sized_by b.args.least.0 b.requires.more_free.0 b.requires.more_free.1, b.requires.sized_by.few, b.requires.more_free.0, b.requires.prepared.checked.few_stages, b.requires.prepared.checked.few_segments, b.requires.prepared.checked.few_repeaters)
-
-pub add_capacitance-requires : goal.add_capacitance-requires
-add_capacitance-requires t c =
-    let b = c in
-    let l = c.loop-k in
-    let f = c.free_place-here.ensures in
-    let g = c.free_place-then.ensures in
-    let n : at b.args.skips.now (b.args.left - 1) ≡ 0 → ⊥ = λ e. omega (arith, b.requires.more_free.2) in
-    let s = ready b.requires.prepared b.requires.sized_by b.args.least.0 b.requires.more_free.0 b.requires.more_free.1 l.invariant.0 (inside-at f l.k c.loop-k-test.true) _ (load_at_lem f c.add_capacitance-load.result.0 _ c.add_capacitance-load.ensures.0) c.step-step.result (step-at f l.k c.add_capacitance-load.result.0 c.step-step.result c.step-step.ensures) c.add_delay-reached.result.0 _ l.gathered c.add_delay-reached.ensures.0 c.add_capacitance-all.ensures.0 l.invariant.1 in
-    omega (arith, g.driven, load-most b.requires.prepared s l.best.0 b.requires.more_free.2 (rest-free b.requires.prepared b.requires.sized_by b.args.least.0 b.requires.more_free.0 b.requires.more_free.1 n) _ refl)
-
-pub pass_over-first-requires : goal.pass_over-first-requires
-pass_over-first-requires t c =
-    let b = c in
-    let l = c.loop-k in
-    let f = c.free_place-here.ensures in
-    let g = c.free_place-then.ensures in
-    let n : at b.args.skips.now (b.args.left - 1) ≡ 0 → ⊥ = λ e. omega (arith, b.requires.more_free.2) in
-    let s = ready b.requires.prepared b.requires.sized_by b.args.least.0 b.requires.more_free.0 b.requires.more_free.1 l.invariant.0 (inside-at f l.k c.loop-k-test.true) _ (load_at_lem f c.add_capacitance-load.result.0 _ c.add_capacitance-load.ensures.0) c.step-step.result (step-at f l.k c.add_capacitance-load.result.0 c.step-step.result c.step-step.ensures) c.add_delay-reached.result.0 _ l.gathered c.add_delay-reached.ensures.0 c.add_capacitance-all.ensures.0 l.invariant.1 in
-    record { checked = b.requires.prepared.checked; rows_value = rows-at g; length_at = length_at g; step_in_limits = top-limits-at g c.add_capacitance.result.0 (place-few b.requires.prepared s l.best.0 b.requires.more_free.2 (rest-free b.requires.prepared b.requires.sized_by b.args.least.0 b.requires.more_free.0 b.requires.more_free.1 n), top-high b.requires.prepared s l.best.0 b.requires.more_free.2 (rest-free b.requires.prepared b.requires.sized_by b.args.least.0 b.requires.more_free.0 b.requires.more_free.1 n), weight-most b.requires.prepared s l.best.0 b.requires.more_free.2 (rest-free b.requires.prepared b.requires.sized_by b.args.least.0 b.requires.more_free.0 b.requires.more_free.1 n), resistance-most b.requires.prepared s l.best.0 b.requires.more_free.2 (rest-free b.requires.prepared b.requires.sized_by b.args.least.0 b.requires.more_free.0 b.requires.more_free.1 n), load-most b.requires.prepared s l.best.0 b.requires.more_free.2 (rest-free b.requires.prepared b.requires.sized_by b.args.least.0 b.requires.more_free.0 b.requires.more_free.1 n) _ (load_at_lem g c.add_capacitance.result.0 _ c.add_capacitance.ensures.0)); low_le_top = range_at g (b.requires.prepared.in_order _ (few b.requires.prepared s l.best.0 b.requires.more_free.2 (rest-free b.requires.prepared b.requires.sized_by b.args.least.0 b.requires.more_free.0 b.requires.more_free.1 n)), small b.requires.prepared s l.best.0 b.requires.more_free.2 (rest-free b.requires.prepared b.requires.sized_by b.args.least.0 b.requires.more_free.0 b.requires.more_free.1 n)); all_fit = fit_at g c.add_capacitance.result.0 c.add_delay-reached.result.0 (all_fit b.requires.prepared s l.best.0 b.requires.more_free.2 (rest-free b.requires.prepared b.requires.sized_by b.args.least.0 b.requires.more_free.0 b.requires.more_free.1 n) _ (load_at_lem g c.add_capacitance.result.0 _ c.add_capacitance.ensures.0)) }
-
-pub take_from-best-requires : goal.take_from-best-requires
-take_from-best-requires t c =
-    let b = c in
-    let l = c.loop-k in
-    let f = c.free_place-here.ensures in
-    let g = c.free_place-then.ensures in
-    let n : at b.args.skips.now (b.args.left - 1) ≡ 0 → ⊥ = λ e. omega (arith, b.requires.more_free.2) in
-    let s = ready b.requires.prepared b.requires.sized_by b.args.least.0 b.requires.more_free.0 b.requires.more_free.1 l.invariant.0 (inside-at f l.k c.loop-k-test.true) _ (load_at_lem f c.add_capacitance-load.result.0 _ c.add_capacitance-load.ensures.0) c.step-step.result (step-at f l.k c.add_capacitance-load.result.0 c.step-step.result c.step-step.ensures) c.add_delay-reached.result.0 _ l.gathered c.add_delay-reached.ensures.0 c.add_capacitance-all.ensures.0 l.invariant.1 in
-    record { prepared = b.requires.prepared; sized_by = s; last_free = (b.requires.more_free.2, rest-free b.requires.prepared b.requires.sized_by b.args.least.0 b.requires.more_free.0 b.requires.more_free.1 n, c.if-further-eq0.true); passed_at = (passed-by b.requires.prepared s l.best.0 b.requires.more_free.2 (rest-free b.requires.prepared b.requires.sized_by b.args.least.0 b.requires.more_free.0 b.requires.more_free.1 n) _ (load_at_lem g c.add_capacitance.result.0 _ c.add_capacitance.ensures.0) _ (passed-at g c.add_capacitance.result.0 c.add_delay-reached.result.0 l.best.0 c.pass_over-first.result c.pass_over-first.ensures)) }
-
-pub loop-k-smaller-then-first-then : goal.loop-k-smaller-then-first-then
-loop-k-smaller-then-first-then t c = omega (arith, c.loop-k-test.true)
-
-pub loop-k-preserved-then-first-then : goal.loop-k-preserved-then-first-then
-loop-k-preserved-then-first-then t c =
-    let b = c in
-    let l = c.loop-k in
-    let f = c.free_place-here.ensures in
-    let r = c.take_from-best in (
-      done b.requires.prepared b.requires.sized_by b.args.least.0 b.requires.more_free.0 b.requires.more_free.1 l.invariant.0 (inside-at f l.k c.loop-k-test.true) _ r.auto.lean r.auto.wide r.ensures,
-      λ w. set-set l.gathered (at b.args.ups.now (b.args.left - 1)) _ w ∙ l.invariant.1 w,
-    )
-
-pub loop-k-smaller-else-first-then : goal.loop-k-smaller-else-first-then
-loop-k-smaller-else-first-then t c = omega (arith, c.loop-k-test.true)
-
-pub loop-k-preserved-else-first-then : goal.loop-k-preserved-else-first-then
-loop-k-preserved-else-first-then t c =
-    let b = c in
-    let l = c.loop-k in
-    let f = c.free_place-here.ensures in
-    let g = c.free_place-then.ensures in
-    let n : at b.args.skips.now (b.args.left - 1) ≡ 0 → ⊥ = λ e. omega (arith, b.requires.more_free.2) in
-    let s = ready b.requires.prepared b.requires.sized_by b.args.least.0 b.requires.more_free.0 b.requires.more_free.1 l.invariant.0 (inside-at f l.k c.loop-k-test.true) _ (load_at_lem f c.add_capacitance-load.result.0 _ c.add_capacitance-load.ensures.0) c.step-step.result (step-at f l.k c.add_capacitance-load.result.0 c.step-step.result c.step-step.ensures) c.add_delay-reached.result.0 _ l.gathered c.add_delay-reached.ensures.0 c.add_capacitance-all.ensures.0 l.invariant.1 in (
-      done b.requires.prepared b.requires.sized_by b.args.least.0 b.requires.more_free.0 b.requires.more_free.1 l.invariant.0 (inside-at f l.k c.loop-k-test.true) _ refl refl
-          (ended b.requires.prepared s l.best.0 b.requires.more_free.2 (rest-free b.requires.prepared b.requires.sized_by b.args.least.0 b.requires.more_free.0 b.requires.more_free.1 n) _ (passed_to b.requires.prepared s l.best.0 b.requires.more_free.2 (rest-free b.requires.prepared b.requires.sized_by b.args.least.0 b.requires.more_free.0 b.requires.more_free.1 n) c.if-further-eq0.true _ (passed-by b.requires.prepared s l.best.0 b.requires.more_free.2 (rest-free b.requires.prepared b.requires.sized_by b.args.least.0 b.requires.more_free.0 b.requires.more_free.1 n) _ (load_at_lem g c.add_capacitance.result.0 _ c.add_capacitance.ensures.0) _ (passed-at g c.add_capacitance.result.0 c.add_delay-reached.result.0 l.best.0 c.pass_over-first.result c.pass_over-first.ensures))) (outside-at g c.pass_over-first.result (omega (arith, c.if-first-then.false))) refl),
-      λ w. set-set l.gathered (at b.args.ups.now (b.args.left - 1)) _ w ∙ l.invariant.1 w,
-    )
-
-pub search-best-requires : goal.search-best-requires
-search-best-requires t c =
-    let b = c in
-    let l = c.loop-k in
-    let f = c.free_place-here.ensures in
-    let n : at b.args.skips.now (b.args.left - 1) ≡ 0 → ⊥ = λ e. omega (arith, b.requires.more_free.2) in
-    (omega (arith, rest-low b.requires.prepared b.requires.sized_by b.args.least.0 b.requires.more_free.0 b.requires.more_free.1, b.requires.prepared, b.requires.more_free.0), (b.requires.prepared, (ready b.requires.prepared b.requires.sized_by b.args.least.0 b.requires.more_free.0 b.requires.more_free.1 l.invariant.0 (inside-at f l.k c.loop-k-test.true) _ (load_at_lem f c.add_capacitance-load.result.0 _ c.add_capacitance-load.ensures.0) c.step-step.result (step-at f l.k c.add_capacitance-load.result.0 c.step-step.result c.step-step.ensures) c.add_delay-reached.result.0 _ l.gathered c.add_delay-reached.ensures.0 c.add_capacitance-all.ensures.0 l.invariant.1, (b.requires.more_free.2, rest-free b.requires.prepared b.requires.sized_by b.args.least.0 b.requires.more_free.0 b.requires.more_free.1 n, omega (arith, c.if-further-eq0.false)))))
-
-pub loop-k-smaller : goal.loop-k-smaller
-loop-k-smaller t c = omega (arith, c.loop-k-test.true)
-
-pub loop-k-preserved : goal.loop-k-preserved
-loop-k-preserved t c =
-    let b = c in
-    let l = c.loop-k in
-    let f = c.free_place-here.ensures in
-    let r = c.search-best in (
-      done b.requires.prepared b.requires.sized_by b.args.least.0 b.requires.more_free.0 b.requires.more_free.1 l.invariant.0 (inside-at f l.k c.loop-k-test.true) _ r.auto.lean r.auto.wide r.ensures,
-      λ w. ap (λ (g : List ℕ). set g (at b.args.ups.now (b.args.left - 1)) w) r.ensures.gathers ∙ set-set l.gathered (at b.args.ups.now (b.args.left - 1)) _ w ∙ l.invariant.1 w,
-    )
+    omega (arith, c.requires.sized_by.few, c.requires.more_free.0, c.args.tables.now.prepared.checked.few_stages, c.args.tables.now.prepared.checked.few_segments, c.args.tables.now.prepared.checked.few_repeaters, node-low c.args.tables.now.prepared c.requires.sized_by c.args.kept.now.least.0 c.requires.more_free.0 c.requires.more_free.1)
 
 pub offset_bounds-gathered-node-2 : goal.offset_bounds-gathered-node-2
 offset_bounds-gathered-node-2 t c =
-    let b = c in
-    omega (arith, node-low b.requires.prepared b.requires.sized_by b.args.least.0 b.requires.more_free.0 b.requires.more_free.1, b.requires.sized_by.few, b.requires.more_free.0, b.requires.prepared.checked.few_stages, b.requires.prepared.checked.few_segments, b.requires.prepared.checked.few_repeaters)
+    omega (arith, c.requires.sized_by.few, c.requires.more_free.0, c.args.tables.now.prepared.checked.few_stages, c.args.tables.now.prepared.checked.few_segments, c.args.tables.now.prepared.checked.few_repeaters, node-low c.args.tables.now.prepared c.requires.sized_by c.args.kept.now.least.0 c.requires.more_free.0 c.requires.more_free.1)
 
 pub bounds-gathered-node-2 : goal.bounds-gathered-node-2
 bounds-gathered-node-2 t c =
-    let b = c in
-    omega (arith, node-low b.requires.prepared b.requires.sized_by b.args.least.0 b.requires.more_free.0 b.requires.more_free.1, b.requires.sized_by.few, b.requires.more_free.0, b.requires.prepared.checked.few_stages, b.requires.prepared.checked.few_segments, b.requires.prepared.checked.few_repeaters)
+    omega (arith, c.requires.sized_by.few, c.requires.more_free.0, c.args.tables.now.prepared.checked.few_stages, c.args.tables.now.prepared.checked.few_segments, c.args.tables.now.prepared.checked.few_repeaters, node-low c.args.tables.now.prepared c.requires.sized_by c.args.kept.now.least.0 c.requires.more_free.0 c.requires.more_free.1)
 
-pub shape_of-x : goal.shape_of-x
-shape_of-x t c =
-    let b = c in
-    let l = c.loop-k in
-    ((allowed-by (driving_by b.args.counts b.args.job.now) l.x).0 l.invariant.0.allowed).long ∙ sym ((allowed-by (driving_by b.args.counts b.args.job.now) b.args.x.now).0 b.requires.sized_by.allowed).long
+-- what the calls behind the step ask, and what they leave
+module _ {t : ℕ} (c : After-add t) where
+  abbrev rest : ℕ
+  rest = at c.args.tables.now.skips (c.args.left - 1)
 
-pub shape_of-lean : goal.shape_of-lean
-shape_of-lean t c =
-    let b = c in
-    let l = c.loop-k in
-    l.invariant.0.lean_long ∙ sym b.requires.sized_by.lean_long
+  abbrev put : List ℕ
+  put = set c.loop-k.x (c.args.left - 1) c.loop-k.k
 
-pub shape_of-wide : goal.shape_of-wide
-shape_of-wide t c =
-    let b = c in
-    let l = c.loop-k in
-    l.invariant.0.wide_long ∙ sym b.requires.sized_by.wide_long
+  abbrev arrived : List Capacitance
+  arrived = set c.loop-k.gathered (at c.args.tables.now.ups (c.args.left - 1)) c.add.result
 
-pub returns : goal.returns
-returns t c =
-    let b = c in
+  sized : SizedBy c.args.tables.now rest c.add-reached.result.0 put arrived c.loop-k.kept
+  sized =
+      let l = c.loop-k in
+      let f = c.free_place-here.ensures in
+      let node = at c.args.tables.now.ups (c.args.left - 1) in
+      rw (loads-set l.gathered node c.add.result)
+      (ready c.args.tables.now.prepared c.requires.sized_by c.args.kept.now.least.0 c.requires.more_free.0 c.requires.more_free.1 l.invariant.turning (inside-at f l.k (omega arith)) _ (loaded f c.args.gathered.now c.args.left _ c.requires.more_free.0 c.add-load.ensures.0) c.step-step.result
+      (step-at f l.k c.add-load.result.0 c.step-step.result (rw c.from.ensures at c.step-step.ensures)) c.add-reached.result.0 _ (loads l.gathered) c.add-reached.ensures.0 (rw (loads-at c.args.gathered.now node) at c.add.ensures.0) l.invariant.same_loads)
+
+  frees : free c.args.tables.now.bounds.lower.now c.args.tables.now.bounds.upper.now (rest - 1) ≡ true
+  frees = rest-free c.args.tables.now.prepared c.requires.sized_by c.args.kept.now.least.0 c.requires.more_free.0 c.requires.more_free.1 (λ e. omega (arith, c.requires.more_free.2))
+
+  -- the loop at the next index
+  turned : (x : List ℕ) (gathered : List Capacitance) (kept : Kept) → SameSpace c.loop-k.kept kept → SearchedFrom c.args.tables.now rest put arrived c.loop-k.kept x gathered kept
+      → record {
+        turning : Turning (net_of c.args.tables.now) c.args.tables.now.bounds.lower.now c.args.tables.now.bounds.upper.now (c.args.left - 1) c.args.x.now (found_of c.args.kept.now) x (c.loop-k.k + 1) (found_of kept);
+        same_space : SameSpace c.args.kept.now kept;
+        same_loads : (v : ℕ) → set (loads gathered) (at c.args.tables.now.ups (c.args.left - 1)) v ≡ set (loads c.args.gathered.now) (at c.args.tables.now.ups (c.args.left - 1)) v;
+      }
+  turned x gathered kept new e =
+      let l = c.loop-k in
+      let f = c.free_place-here.ensures in
+      let old = l.invariant.same_space in
+      let node = at c.args.tables.now.ups (c.args.left - 1) in
+      record {
+        turning = done c.args.tables.now.prepared c.requires.sized_by c.args.kept.now.least.0 c.requires.more_free.0 c.requires.more_free.1 l.invariant.turning (inside-at f l.k (omega arith)) _ new.lean_long new.wide_long e;
+        same_space = record { lean = new.lean ∙ old.lean; wide = new.wide ∙ old.wide; lean_long = new.lean_long ∙ old.lean_long; wide_long = new.wide_long ∙ old.wide_long };
+        same_loads = λ v. ap (λ (g : List ℕ). set g node v) (e.gathers ∙ loads-set l.gathered node c.add.result) ∙ set-set (loads l.gathered) node _ v ∙ l.invariant.same_loads v;
+      }
+
+pub offset_bounds-gathered-rest : goal.offset_bounds-gathered-rest
+offset_bounds-gathered-rest t c =
+    omega (arith, c.requires.sized_by.few, c.requires.more_free.0, c.args.tables.now.prepared.checked.few_stages, c.args.tables.now.prepared.checked.few_segments, c.args.tables.now.prepared.checked.few_repeaters, rest-low c.args.tables.now.prepared c.requires.sized_by c.args.kept.now.least.0 c.requires.more_free.0 c.requires.more_free.1)
+
+pub bounds-gathered-rest : goal.bounds-gathered-rest
+bounds-gathered-rest t c =
+    omega (arith, c.requires.sized_by.few, c.requires.more_free.0, c.args.tables.now.prepared.checked.few_stages, c.args.tables.now.prepared.checked.few_segments, c.args.tables.now.prepared.checked.few_repeaters, rest-low c.args.tables.now.prepared c.requires.sized_by c.args.kept.now.least.0 c.requires.more_free.0 c.requires.more_free.1)
+
+pub add-drives-requires : goal.add-drives-requires
+add-drives-requires t c =
+    let b = (goal.at.add-drives-requires t c).After-add in
+    let g = c.free_place-then.ensures in
+    omega (arith, g.driven, gathered-at (arrived b) (rest b) _ 0 c.requires.more_free.2 refl, load-most c.args.tables.now.prepared (sized b) c.loop-k.kept.least.0 c.requires.more_free.2 (frees b) _ refl)
+
+pub pass_over-requires-clause-step_in_limits : goal.pass_over-requires-clause-step_in_limits
+pass_over-requires-clause-step_in_limits t c =
+    let b = (goal.at.pass_over-requires-clause-step_in_limits t c).After-add in
+    let g = c.free_place-then.ensures in
+    top-limits-at g c.add-drives.result.0 (place-few c.args.tables.now.prepared (sized b) c.loop-k.kept.least.0 c.requires.more_free.2 (frees b), top-high c.args.tables.now.prepared (sized b) c.loop-k.kept.least.0 c.requires.more_free.2 (frees b), weight-most c.args.tables.now.prepared (sized b) c.loop-k.kept.least.0 c.requires.more_free.2 (frees b), resistance-most c.args.tables.now.prepared (sized b) c.loop-k.kept.least.0 c.requires.more_free.2 (frees b), load-most c.args.tables.now.prepared (sized b) c.loop-k.kept.least.0 c.requires.more_free.2 (frees b) _ (loaded g (arrived b) (rest b) _ c.requires.more_free.2 c.add-drives.ensures.0))
+
+pub pass_over-requires-clause-low_le_top : goal.pass_over-requires-clause-low_le_top
+pass_over-requires-clause-low_le_top t c =
+    let b = (goal.at.pass_over-requires-clause-low_le_top t c).After-add in
+    let g = c.free_place-then.ensures in
+    range_at g (c.args.tables.now.prepared.in_order _ (few c.args.tables.now.prepared (sized b) c.loop-k.kept.least.0 c.requires.more_free.2 (frees b)), small c.args.tables.now.prepared (sized b) c.loop-k.kept.least.0 c.requires.more_free.2 (frees b))
+
+pub pass_over-requires-clause-all_fit : goal.pass_over-requires-clause-all_fit
+pass_over-requires-clause-all_fit t c =
+    let b = (goal.at.pass_over-requires-clause-all_fit t c).After-add in
+    let g = c.free_place-then.ensures in
+    fit_at g c.add-drives.result.0 c.add-reached.result.0 (all_fit c.args.tables.now.prepared (sized b) c.loop-k.kept.least.0 c.requires.more_free.2 (frees b) _ (loaded g (arrived b) (rest b) _ c.requires.more_free.2 c.add-drives.ensures.0))
+
+pub take_from-requires-clause-sized_by : goal.take_from-requires-clause-sized_by
+take_from-requires-clause-sized_by t c =
+    sized (goal.at.take_from-requires-clause-sized_by t c).After-add
+
+pub take_from-requires-clause-last_free : goal.take_from-requires-clause-last_free
+take_from-requires-clause-last_free t c =
+    (c.requires.more_free.2, frees (goal.at.take_from-requires-clause-last_free t c).After-add, c.if-further-eq0.true)
+
+pub take_from-requires-clause-passed_at : goal.take_from-requires-clause-passed_at
+take_from-requires-clause-passed_at t c =
+    let b = (goal.at.take_from-requires-clause-passed_at t c).After-add in
+    let g = c.free_place-then.ensures in
+    passed-by c.args.tables.now.prepared (sized b) c.loop-k.kept.least.0 c.requires.more_free.2 (frees b) _ (loaded g (arrived b) (rest b) _ c.requires.more_free.2 c.add-drives.ensures.0) _ (passed-at g c.add-drives.result.0 c.add-reached.result.0 c.loop-k.kept.least.0 _ c.in-Some.ensures)
+
+pub search-requires : goal.search-requires
+search-requires t c =
+    let b = (goal.at.search-requires t c).After-add in
+    (omega (arith, c.requires.sized_by.few, c.requires.more_free.0, c.args.tables.now.prepared.checked.few_stages, c.args.tables.now.prepared.checked.few_segments, c.args.tables.now.prepared.checked.few_repeaters, rest-low c.args.tables.now.prepared c.requires.sized_by c.args.kept.now.least.0 c.requires.more_free.0 c.requires.more_free.1), (sized b, (c.requires.more_free.2, frees b, omega (arith, c.if-further-eq0.false))))
+
+pub loop-k-preserved : goal.loop-k-preserved
+loop-k-preserved t c =
+    let b = (goal.at.loop-k-preserved t c).After-add in
+    elim c.if-further-eq0.branch [
+      | then-further-eq0+in-Some w ↦ rw (w.x-is, w.gathered-is, w.kept-is) (turned b _ _ _ w.take_from.ensures.same_space w.take_from.ensures.searched)
+      | then-further-eq0+in_default w ↦
+          let g = c.free_place-then.ensures in
+          let all = rw (first-none _ _ w.in_default.not-Some) at w.pass_over.ensures in
+          let passed = passed-by c.args.tables.now.prepared (sized b) c.loop-k.kept.least.0 c.requires.more_free.2 (frees b) _ (loaded g (arrived b) (rest b) _ c.requires.more_free.2 w.add-drives.ensures.0) _ (passed-at g w.add-drives.result.0 c.add-reached.result.0 c.loop-k.kept.least.0 _ all) in
+          rw (w.x-is, w.gathered-is, w.kept-is)
+          (turned b _ _ _ (record { lean = refl; wide = refl; lean_long = refl; wide_long = refl })
+          (ended c.args.tables.now.prepared (sized b) c.loop-k.kept.least.0 c.requires.more_free.2 (frees b) _ (passed_to c.args.tables.now.prepared (sized b) c.loop-k.kept.least.0 c.requires.more_free.2 (frees b) w.if-further-eq0.true _ passed) (outside-at g (suc c.free_place-then.result.range.highest) (omega arith)) refl))
+      | else-further-eq0 w ↦ rw (w.x-is, w.gathered-is, w.kept-is) (turned b _ _ _ w.search.ensures.same_space w.search.ensures.searched)
+    ]
+
+pub returns-clause-searched : goal.returns-clause-searched
+returns-clause-searched t c =
     let l = c.loop-k in
-    let f = c.free_place-here.ensures in
-    ended b.requires.prepared b.requires.sized_by b.args.least.0 b.requires.more_free.0 b.requires.more_free.1 _ l.invariant.0 (outside-at f l.k c.loop-k-test.false) (l.invariant.1 (at b.args.gathered.now (at b.args.ups.now (b.args.left - 1))) ∙ set-get_or b.args.gathered.now (at b.args.ups.now (b.args.left - 1)) 0)
+    let node = at c.args.tables.now.ups (c.args.left - 1) in
+    ended c.args.tables.now.prepared c.requires.sized_by c.args.kept.now.least.0 c.requires.more_free.0 c.requires.more_free.1 _ l.invariant.turning (outside-at c.free_place-here.ensures l.k (omega arith))
+    (loads-set l.gathered node _ ∙ l.invariant.same_loads _ ∙ ap (λ (v : ℕ). set (loads c.args.gathered.now) node v) (loads-at c.args.gathered.now node) ∙ set-get_or (loads c.args.gathered.now) node 0)

@@ -1,60 +1,67 @@
--- `search::start` meets its contract: one sizing where no place is free, else the search from the last free place on.
-use Rattle.free.proofs.Passing.{passing-start}
-use Rattle.search.proofs.Starting.{start-sized, start-found, start-one}
-use Rattle.net.proofs.InOrder.{allowed-by}
-use Rattle.free.proofs.Tables.{skip-le, skip-free}
-use Rattle.net.specs.Order.{driving_by}
-use Rattle.envelope.specs.Kept.{found}
-use lib.ListN.{length}
+-- One sizing where no place is free, else the search from the last free place on.
+use mathlib.Core.Path.{refl, sym, ap, ◌∙◌}
 use native.Mathlib.Omega.{arith}
-use Prim.Native.Nat.{◌+◌}
-use mathlib.Core.Path.{sym, ap, ◌∙◌}
+use lib.ListN.{length}
+use Rattle.net.proofs.InOrder.{allowed-by}
+use Rattle.envelope.specs.Kept.{found_of}
+use Rattle.free.specs.ByTables.{net_of}
+use Rattle.free.proofs.Passing.{passing-start}
+use Rattle.free.proofs.Tables.{skip-le, skip-free}
+use Rattle.search.proofs.Starting.{start-sized, start-found, start-one}
 use Rattle.search.proofs.start.Goals as goal
 
-pub keep-requires : goal.keep-requires
-keep-requires c =
-    let b = c in
-    let e = ap length b.requires.x_value ∙ ((allowed-by (driving_by b.args.counts b.args.job.now) b.args.lower.now).0 b.requires.prepared.lower_allowed).long in
-    record { x_len = e ∙ sym b.requires.for_places.0; x_len_2 = e ∙ sym b.requires.for_places.1 }
+pub keep-requires-clause-lean_len : goal.keep-requires-clause-lean_len
+keep-requires-clause-lean_len c =
+    ap length c.requires.x_value ∙ ((allowed-by (net_of c.args.tables.now) c.args.tables.now.bounds.lower.now).0 c.args.tables.now.prepared.lower_allowed).long ∙ sym c.requires.for_places.0
 
-pub returns-then-left-eq0 : goal.returns-then-left-eq0
-returns-then-left-eq0 c =
-    let b = c in
-    start-one b.requires.prepared b.args.fixed.0 (found b.args.least.0 b.args.lean.now b.args.wide.now) b.requires.x_value b.requires.for_places.2 c.if-left-eq0.true c.keep.ensures
+pub keep-requires-clause-wide_len : goal.keep-requires-clause-wide_len
+keep-requires-clause-wide_len c =
+    ap length c.requires.x_value ∙ ((allowed-by (net_of c.args.tables.now) c.args.tables.now.bounds.lower.now).0 c.args.tables.now.prepared.lower_allowed).long ∙ sym c.requires.for_places.1
 
-pub offset_bounds-skips-left : goal.offset_bounds-skips-left
-offset_bounds-skips-left c =
-    let b = c in
-    omega (arith, skip-le b.args.lower.now b.args.upper.now (b.args.counts.stages + b.args.counts.segments + b.args.counts.repeaters) b.args.skips.now b.requires.prepared.skipped (b.args.counts.stages + b.args.counts.segments + b.args.counts.repeaters) (omega arith), b.requires.prepared.checked.few_stages, b.requires.prepared.checked.few_segments, b.requires.prepared.checked.few_repeaters)
+pub returns-then-left-eq0-clause-taken : goal.returns-then-left-eq0-clause-taken
+returns-then-left-eq0-clause-taken c =
+    start-one c.args.tables.now.prepared c.args.tables.now.fixed.0 (found_of c.args.kept.now) c.requires.x_value c.args.tables.now.held_add (rw c.places.ensures.0 at c.if-left-eq0.true) c.keep.ensures.taken
 
-pub bounds-skips-left : goal.bounds-skips-left
-bounds-skips-left c =
-    let b = c in
-    omega (arith, skip-le b.args.lower.now b.args.upper.now (b.args.counts.stages + b.args.counts.segments + b.args.counts.repeaters) b.args.skips.now b.requires.prepared.skipped (b.args.counts.stages + b.args.counts.segments + b.args.counts.repeaters) (omega arith), b.requires.prepared.checked.few_stages, b.requires.prepared.checked.few_segments, b.requires.prepared.checked.few_repeaters)
+pub offset_bounds-tables-left : goal.offset_bounds-tables-left
+offset_bounds-tables-left c =
+    let k = c.args.tables.now.prepared.checked in
+    omega (arith, c.places.ensures.0, rw (← c.places.ensures.0) at (skip-le c.args.tables.now.bounds.lower.now c.args.tables.now.bounds.upper.now (net_of c.args.tables.now).places c.args.tables.now.skips c.args.tables.now.prepared.skipped (net_of c.args.tables.now).places (omega arith)), k.few_stages, k.few_segments, k.few_repeaters)
 
-pub bounds-lower-left : goal.bounds-lower-left
-bounds-lower-left c =
-    let b = c in
-    omega (arith, skip-le b.args.lower.now b.args.upper.now (b.args.counts.stages + b.args.counts.segments + b.args.counts.repeaters) b.args.skips.now b.requires.prepared.skipped (b.args.counts.stages + b.args.counts.segments + b.args.counts.repeaters) (omega arith), ((allowed-by (driving_by b.args.counts b.args.job.now) b.args.lower.now).0 b.requires.prepared.lower_allowed).long)
+pub bounds-tables-left : goal.bounds-tables-left
+bounds-tables-left c =
+    let k = c.args.tables.now.prepared.checked in
+    omega (arith, c.places.ensures.0, rw (← c.places.ensures.0) at (skip-le c.args.tables.now.bounds.lower.now c.args.tables.now.bounds.upper.now (net_of c.args.tables.now).places c.args.tables.now.skips c.args.tables.now.prepared.skipped (net_of c.args.tables.now).places (omega arith)), k.few_stages, k.few_segments, k.few_repeaters)
 
-pub take_from-requires : goal.take_from-requires
-take_from-requires c =
-    let b = c in
-    let n = c.if-left-eq0.false in
-    record { prepared = b.requires.prepared; sized_by = start-sized b.requires.prepared b.args.fixed.0 b.requires.x_value b.requires.for_places.2 b.requires.for_places.0 b.requires.for_places.1; last_free = (omega (arith, n), skip-free b.args.lower.now b.args.upper.now (b.args.counts.stages + b.args.counts.segments + b.args.counts.repeaters) b.args.skips.now b.requires.prepared.skipped (b.args.counts.stages + b.args.counts.segments + b.args.counts.repeaters) (omega arith) n, c.if-skips-left-eq0.true); passed_at = passing-start (b.requires.prepared.in_order _ (omega (arith, skip-le b.args.lower.now b.args.upper.now (b.args.counts.stages + b.args.counts.segments + b.args.counts.repeaters) b.args.skips.now b.requires.prepared.skipped (b.args.counts.stages + b.args.counts.segments + b.args.counts.repeaters) (omega arith), n))) }
+pub bounds-tables-left-then-tables-left-eq0 : goal.bounds-tables-left-then-tables-left-eq0
+bounds-tables-left-then-tables-left-eq0 c =
+    let k = c.args.tables.now.prepared.checked in
+    omega (arith, c.places.ensures.0, rw (← c.places.ensures.0) at (skip-le c.args.tables.now.bounds.lower.now c.args.tables.now.bounds.upper.now (net_of c.args.tables.now).places c.args.tables.now.skips c.args.tables.now.prepared.skipped (net_of c.args.tables.now).places (omega arith)), k.few_stages, k.few_segments, k.few_repeaters, ((allowed-by (net_of c.args.tables.now) c.args.tables.now.bounds.lower.now).0 c.args.tables.now.prepared.lower_allowed).long)
 
-pub returns-then-skips-left-eq0 : goal.returns-then-skips-left-eq0
-returns-then-skips-left-eq0 c =
-    let b = c in
-    start-found b.requires.prepared b.requires.x_value c.take_from.ensures
+pub take_from-requires-clause-sized_by : goal.take_from-requires-clause-sized_by
+take_from-requires-clause-sized_by c =
+    rw c.places.ensures.0 (start-sized c.args.tables.now.prepared c.args.tables.now.fixed.0 _ refl c.requires.x_value c.args.tables.now.held_add c.requires.for_places.0 c.requires.for_places.1)
 
-pub search-requires : goal.search-requires
-search-requires c =
-    let b = c in
-    let n = c.if-left-eq0.false in
-    record { prepared = b.requires.prepared; sized_by = start-sized b.requires.prepared b.args.fixed.0 b.requires.x_value b.requires.for_places.2 b.requires.for_places.0 b.requires.for_places.1; more_free = (omega (arith, n), skip-free b.args.lower.now b.args.upper.now (b.args.counts.stages + b.args.counts.segments + b.args.counts.repeaters) b.args.skips.now b.requires.prepared.skipped (b.args.counts.stages + b.args.counts.segments + b.args.counts.repeaters) (omega arith) n, omega (arith, c.if-skips-left-eq0.false)) }
+pub take_from-requires-clause-last_free : goal.take_from-requires-clause-last_free
+take_from-requires-clause-last_free c =
+    (omega (arith, c.if-left-eq0.false), rw c.places.ensures.0 (skip-free c.args.tables.now.bounds.lower.now c.args.tables.now.bounds.upper.now (net_of c.args.tables.now).places c.args.tables.now.skips c.args.tables.now.prepared.skipped (net_of c.args.tables.now).places (omega arith) (rw c.places.ensures.0 at c.if-left-eq0.false)), c.if-tables-left-eq0.true)
 
-pub returns : goal.returns
-returns c =
-    let b = c in
-    start-found b.requires.prepared b.requires.x_value c.search.ensures
+pub take_from-requires-clause-passed_at : goal.take_from-requires-clause-passed_at
+take_from-requires-clause-passed_at c =
+    let k = c.args.tables.now.prepared.checked in
+    passing-start (c.args.tables.now.prepared.in_order _ (omega (arith, c.places.ensures.0, rw (← c.places.ensures.0) at (skip-le c.args.tables.now.bounds.lower.now c.args.tables.now.bounds.upper.now (net_of c.args.tables.now).places c.args.tables.now.skips c.args.tables.now.prepared.skipped (net_of c.args.tables.now).places (omega arith)), k.few_stages, k.few_segments, k.few_repeaters, c.if-left-eq0.false)))
+
+pub returns-then-tables-left-eq0-clause-taken : goal.returns-then-tables-left-eq0-clause-taken
+returns-then-tables-left-eq0-clause-taken c =
+    start-found c.args.tables.now.prepared c.requires.x_value (rw c.places.ensures.0 at c.take_from.ensures.searched)
+
+pub search-requires-clause-sized_by : goal.search-requires-clause-sized_by
+search-requires-clause-sized_by c =
+    rw c.places.ensures.0 (start-sized c.args.tables.now.prepared c.args.tables.now.fixed.0 _ refl c.requires.x_value c.args.tables.now.held_add c.requires.for_places.0 c.requires.for_places.1)
+
+pub search-requires-clause-more_free : goal.search-requires-clause-more_free
+search-requires-clause-more_free c =
+    (omega (arith, c.if-left-eq0.false), rw c.places.ensures.0 (skip-free c.args.tables.now.bounds.lower.now c.args.tables.now.bounds.upper.now (net_of c.args.tables.now).places c.args.tables.now.skips c.args.tables.now.prepared.skipped (net_of c.args.tables.now).places (omega arith) (rw c.places.ensures.0 at c.if-left-eq0.false)), omega (arith, c.if-tables-left-eq0.false))
+
+pub returns-else-tables-left-eq0-clause-taken : goal.returns-else-tables-left-eq0-clause-taken
+returns-else-tables-left-eq0-clause-taken c =
+    start-found c.args.tables.now.prepared c.requires.x_value (rw c.places.ensures.0 at c.search.ensures.searched)

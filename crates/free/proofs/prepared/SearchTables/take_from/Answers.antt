@@ -9,7 +9,7 @@ use Rattle.lattice.specs.Search.{Found, take}
 use Rattle.net.proofs.InOrder.{allowed-by}
 use Rattle.envelope.specs.Kept.{found_of}
 use Rattle.free.specs.ByTables.{net_of}
-use Rattle.free.proofs.Placed.{limits-at, step-at, load_at_lem, gathered-at, inside-at, outside-at}
+use Rattle.free.proofs.Placed.{limits-at, step-at, gathered-at, loaded, inside-at, outside-at}
 use Rattle.free.proofs.Turns.{Turning}
 use Rattle.free.proofs.Calls.{few, place-few, load-most, weight-most, resistance-most, passed_to, high-at, fits, taken, passed, ended}
 use Rattle.free.proofs.prepared.SearchTables.take_from.Goals as goal
@@ -45,7 +45,7 @@ step-step-requires-clause-step_in_limits c =
       rw c.from.ensures (high-at p r.sized_by least r.last_free.0 r.last_free.1 l.invariant.turning (inside-at f l.k (omega arith))),
       weight-most p r.sized_by least r.last_free.0 r.last_free.1,
       resistance-most p r.sized_by least r.last_free.0 r.last_free.1,
-      load-most p r.sized_by least r.last_free.0 r.last_free.1 _ (load_at_lem f c.add-load.result.0 _ (gathered-at c.args.gathered.now c.args.left _ _ r.last_free.0 c.add-load.ensures.0)),
+      load-most p r.sized_by least r.last_free.0 r.last_free.1 _ (loaded f c.args.gathered.now c.args.left _ r.last_free.0 c.add-load.ensures.0),
     )
 
 pub add-reached-requires : goal.add-reached-requires
@@ -54,7 +54,7 @@ add-reached-requires c =
     let l = c.loop-k in
     let f = c.free_place-here.ensures in
     fits c.args.self.now.prepared r.sized_by c.args.kept.now.least.0 r.last_free.0 r.last_free.1 l.invariant.turning (inside-at f l.k (omega arith)) _
-    (load_at_lem f c.add-load.result.0 _ (gathered-at c.args.gathered.now c.args.left _ _ r.last_free.0 c.add-load.ensures.0)) c.step-step.result (step-at f l.k c.add-load.result.0 c.step-step.result (rw c.from.ensures at c.step-step.ensures))
+    (loaded f c.args.gathered.now c.args.left _ r.last_free.0 c.add-load.ensures.0) c.step-step.result (step-at f l.k c.add-load.result.0 c.step-step.result (rw c.from.ensures at c.step-step.ensures))
 
 pub bounds-x-t : goal.bounds-x-t
 bounds-x-t c =
@@ -85,7 +85,7 @@ module _ (c : After-le) where
       let l = c.loop-k in
       let here = c.free_place-here.ensures in
       taken c.args.self.now.prepared r.sized_by c.args.kept.now.least.0 r.last_free.0 r.last_free.1 l.invariant.turning (inside-at here l.k (omega arith)) _
-      (load_at_lem here c.add-load.result.0 _ (gathered-at c.args.gathered.now c.args.left _ _ r.last_free.0 c.add-load.ensures.0)) c.step-step.result
+      (loaded here c.args.gathered.now c.args.left _ r.last_free.0 c.add-load.ensures.0) c.step-step.result
       (step-at here l.k c.add-load.result.0 c.step-step.result (rw c.from.ensures at c.step-step.ensures)) r.last_free.2 _ c.add-reached.ensures.0 f lean wide e
 
   passed-turn : c.loop-k.kept.least.0 < c.add-reached.result.0 → turning c.loop-k.x (found_of c.loop-k.kept)
@@ -94,7 +94,7 @@ module _ (c : After-le) where
       let l = c.loop-k in
       let here = c.free_place-here.ensures in
       passed c.args.self.now.prepared r.sized_by c.args.kept.now.least.0 r.last_free.0 r.last_free.1 l.invariant.turning (inside-at here l.k (omega arith)) _
-      (load_at_lem here c.add-load.result.0 _ (gathered-at c.args.gathered.now c.args.left _ _ r.last_free.0 c.add-load.ensures.0)) c.step-step.result
+      (loaded here c.args.gathered.now c.args.left _ r.last_free.0 c.add-load.ensures.0) c.step-step.result
       (step-at here l.k c.add-load.result.0 c.step-step.result (rw c.from.ensures at c.step-step.ensures)) r.last_free.2 _ c.add-reached.ensures.0 more
 
 pub loop-k-preserved : goal.loop-k-preserved
