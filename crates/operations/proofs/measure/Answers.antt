@@ -24,7 +24,7 @@ invariant_of-net c =
     let k = c.in_ok-checked.ensures in
     record {
       ready = record { checked = j.checked; in_ranges = number-ranges _ c.args.sizing.now (sym c.in_ok-check_sizing.ensures) };
-      weighed = rw k.passed.bytes k.passed.weighed;
+      weighed = k.passed.weighed;
     }
 
 pub returns : goal.returns

@@ -37,7 +37,7 @@ invariant_of-first c =
     let e = rw (was_ok c.check_sizing.result c.in_ok-ok.field-0 c.in_ok-ok.ensures.value) at c.check_sizing.ensures in
     record {
       ready = record { checked = j.checked; in_ranges = number-ranges _ c.args.x.now (sym e) };
-      weighed = rw k.passed.bytes k.passed.weighed;
+      weighed = k.passed.weighed;
     }
 
 pub invariant_of-second : goal.invariant_of-second
@@ -47,7 +47,7 @@ invariant_of-second c =
     let e = rw (was_ok c.check_sizing-2.result c.in_ok-ok-2.field-0 c.in_ok-ok-2.ensures.value) at c.check_sizing-2.ensures in
     record {
       ready = record { checked = j.checked; in_ranges = number-ranges _ c.args.y.now (sym e) };
-      weighed = rw k.passed.bytes k.passed.weighed;
+      weighed = k.passed.weighed;
     }
 
 pub returns-then-le : goal.returns-then-le
@@ -56,9 +56,9 @@ returns-then-le c =
     let k = rw (was_ok c.check.result c.in_ok-job.field-0 c.in_ok-job.ensures.value) at c.check.ensures in
     let ex = rw (was_ok c.check_sizing.result c.in_ok-ok.field-0 c.in_ok-ok.ensures.value) at c.check_sizing.ensures in
     let ey = rw (was_ok c.check_sizing-2.result c.in_ok-ok-2.field-0 c.in_ok-ok-2.ensures.value) at c.check_sizing-2.ensures in
-    rw c.places-places.ensures.0
-    (prefer-first c.args.job.now c.args.x.now c.args.y.now (rw k.passed.bytes at j.checked) (sym k.number) (rw k.passed.bytes at (sym ex)) (rw k.passed.bytes at (sym ey))
-    c.delay.result.0 c.delay-2.result.0 (rw k.passed.bytes at c.delay.ensures) (rw k.passed.bytes at c.delay-2.ensures) (search rules))
+    let f = prefer-first c.args.job.now c.args.x.now c.args.y.now (rw k.passed.bytes at j.checked) (sym k.number) (rw k.passed.bytes at (sym ex)) (rw k.passed.bytes at (sym ey))
+    c.delay.result.0 c.delay-2.result.0 (rw k.passed.bytes at c.delay.ensures) (rw k.passed.bytes at c.delay-2.ensures) (search rules) in
+    (f.0, f.1, c.places-places.ensures.0 ∙ f.2, rw c.places-places.ensures.0 f.3)
 
 pub returns : goal.returns
 returns c =
@@ -66,6 +66,6 @@ returns c =
     let k = rw (was_ok c.check.result c.in_ok-job.field-0 c.in_ok-job.ensures.value) at c.check.ensures in
     let ex = rw (was_ok c.check_sizing.result c.in_ok-ok.field-0 c.in_ok-ok.ensures.value) at c.check_sizing.ensures in
     let ey = rw (was_ok c.check_sizing-2.result c.in_ok-ok-2.field-0 c.in_ok-ok-2.ensures.value) at c.check_sizing-2.ensures in
-    rw c.places-places.ensures.0
-    (prefer-second c.args.job.now c.args.x.now c.args.y.now (rw k.passed.bytes at j.checked) (sym k.number) (rw k.passed.bytes at (sym ex)) (rw k.passed.bytes at (sym ey))
-    c.delay.result.0 c.delay-2.result.0 (rw k.passed.bytes at c.delay.ensures) (rw k.passed.bytes at c.delay-2.ensures) (search rules))
+    let f = prefer-second c.args.job.now c.args.x.now c.args.y.now (rw k.passed.bytes at j.checked) (sym k.number) (rw k.passed.bytes at (sym ex)) (rw k.passed.bytes at (sym ey))
+    c.delay.result.0 c.delay-2.result.0 (rw k.passed.bytes at c.delay.ensures) (rw k.passed.bytes at c.delay-2.ensures) (search rules) in
+    (f.0, f.1, c.places-places.ensures.0 ∙ f.2, rw c.places-places.ensures.0 f.3)

@@ -46,7 +46,7 @@ invariant_of-net c =
         checked = j.checked;
         in_ranges = allowed-ranges _ _ (rw c.places-places.ensures.0 (sizing-allowed _ c.args.sizing.now (sym c.in_ok-check_sizing.ensures)));
       };
-      weighed = rw k.passed.bytes k.passed.weighed;
+      weighed = k.passed.weighed;
     }
 
 pub refine_at-requires-clause-allowed_by : goal.refine_at-requires-clause-allowed_by
