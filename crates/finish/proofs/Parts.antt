@@ -28,11 +28,10 @@ use Rattle.net.proofs.Order.{numbering}
 use Rattle.net.proofs.Questions.{lowest_sizing, checked-allowed, ordered}
 use Rattle.net.proofs.InOrder.{allowed-by, driving-lattice, driving-submodular, in_limits}
 use Rattle.positions.specs.Arranged.{Among, PositionsOf}
-use Rattle.place.specs.Partial.{WeightsFrom}
 use Rattle.envelope.specs.Kept.{found}
 use Rattle.reply.specs.Records.{of_place, replied}
 use Rattle.reply.proofs.Places.{reply-same}
-use Rattle.free.specs.Searching.{Bounds}
+use Rattle.free.specs.Searching.{Between}
 use Rattle.finish.specs.Parts.{Bounded, LeastOf, buffer_from}
 
 module _ {c : Counts} {job : List ℕ} (k : Checked c job) where
@@ -72,11 +71,9 @@ module _ {c : Counts} {job : List ℕ} (k : Checked c job) where
   given-in-order b = rw (b.is_lower, b.is_upper) (never-cross la sub x₀ some-allowed)
 
   -- the search may start
-  pub bounds : {weights lower upper : List ℕ} → WeightsFrom net 0 weights → Bounded net lower upper → Bounds c job weights lower upper
-  bounds w b =
+  pub between : {lower upper : List ℕ} → Bounded net lower upper → Between c job lower upper
+  between b =
       record {
-        checked = k;
-        weighed = w;
         lower_allowed = rw b.is_lower lower-allowed;
         upper_allowed = rw b.is_upper upper-allowed;
         in_order = given-in-order b;
