@@ -111,8 +111,10 @@ pub fn refine_at(net: &SizedJob<'_>, place: usize) -> EndsAndDelay
     ensures { ReachedBy net.now.job.counts net.now.job.bytes.now net.now.sizing.now place result }
 {
     let job = &net.job;
-    let seats = parts::seats(job);
-    let nodes = nodes::count_up(net, &seats);
+    let mut seats = [None; 64];
+    parts::seat(job, &mut seats);
+    let mut nodes = [parts::NOTHING; 65];
+    nodes::count_up(net, &seats, &mut nodes);
     let tree = Tree {
         net: &*net,
         seats: &seats,

@@ -6,7 +6,7 @@ use Prim.Native.Nat.{ℕ, suc, ◌+◌, ◌^◌, ◌≤◌, ◌<◌}
 use native.Mathlib.Nat.{eq-or-lt_of_le}
 use native.Mathlib.Decide.{dec_le}
 use native.Mathlib.Omega.{arith}
-use lib.ListN.{length, set, length-set}
+use lib.ListN.{set, length-set}
 use lib.Seq.{get_or-set_same, get_or-set_other}
 use Rattle.lattice.specs.Lists.{at, sum}
 use Rattle.net.specs.declared.Counts.{Counts}
@@ -31,16 +31,12 @@ module _ (net : Net) (x : List ℕ) where
     pub parts : PartsFrom net x t table
     pub charge : all + sum t (repeater_charge net x) ≡ sum net.repeaters (repeater_charge net x)
 
-  pub repeated-none : (parts : List Part) → length parts ≡ 8 → RepeatedFrom net.repeaters parts 0
-  repeated-none parts e = record { within = omega arith; parts = record { long = e; held = λ k h l. absurd (omega arith) }; charge = omega arith }
-
-  pub repeated-all : (t : ℕ) (parts : List Part) (all : ℕ) → t ≤ 0 → RepeatedFrom t parts all
-      → PartsFrom net x 0 parts × (all ≡ sum net.repeaters (repeater_charge net x))
+  pub repeated-all : (t : ℕ) (parts : List Part) (all : ℕ) → t ≤ 0 → RepeatedFrom t parts all → all ≡ sum net.repeaters (repeater_charge net x)
   unfolding sum
   repeated-all t parts all h v =
       let e : t ≡ 0 = omega arith in
       let w = rw e at v in
-      (w.parts, omega (arith, w.charge))
+      omega (arith, w.charge)
 
   -- repeater r is next
   module _ (r : ℕ) (parts : List Part) (all : ℕ) (v : RepeatedFrom (suc r) parts all) (h : PartAndCharge) (q : RepeatedOf net x r h) where
@@ -67,13 +63,7 @@ module _ {c : Counts} {job x : List ℕ} (ready : Ready c job x) {first next : L
   abbrev net : Net
   net = net_by c job
 
-  -- a walk from the source, where all parts are in the table
-  pub source-parted : {parts : List Part} → PartsFrom net x 0 parts → PartsBehind net x (at first 0) parts
-  source-parted p = record { long = p.long; held = λ r h m. p.held r (omega arith) h }
-
-  pub source-within : at first 0 ≤ c.segments
-  source-within = (l.firsts 0 (omega arith)).within
-
+  -- a walk from the source
   pub source-tally : (u : Part) → Tally net x siblings (at first 0) u → Tally net x branches_of 0 u
   source-tally u t = node-tally ready 0 (at first 0) u (omega arith) (l.firsts 0 (omega arith)) t
 
@@ -104,9 +94,6 @@ module _ {c : Counts} {job x : List ℕ} (ready : Ready c job x) {first next : L
 
     pub child-parted : {parts : List Part} → PartsFrom net x (suc r) parts → PartsBehind net x top parts
     child-parted p = record { long = p.long; held = λ k g m. p.held k (later k g m) g }
-
-    pub child-within : top ≤ c.segments
-    child-within = child.within
 
     pub child-tally : (u : Part) → Tally net x siblings top u → Tally net x branches_of (suc (net.site r)) u
     child-tally u t = below-tally ready (net.site r) top here child u t

@@ -43,10 +43,6 @@ pub record Passed (net : Net) (x : List ℕ) (j i : ℕ) (r : Part) : Type 0 whe
   pub load : r.load.0 + siblings net (load_with net x) i ≡ siblings net (load_with net x) j
   pub delay : r.delay.0 + siblings net (delay_with net x) i ≡ siblings net (delay_with net x) j
 
--- at first none is passed
-pub passed_none : {net : Net} {x : List ℕ} (j : ℕ) → j ≤ net.segments → Passed net x j j nothing
-passed_none j h = record { from = omega arith; within = h; weight = omega arith; load = omega arith; delay = omega arith }
-
 -- past the last segment all are passed
 pub passed-all : {net : Net} {x : List ℕ} (j i : ℕ) → net.segments ≤ i → (r : Part) → Passed net x j i r → Tally net x siblings j r
 passed-all {net} {x} j i h r p =

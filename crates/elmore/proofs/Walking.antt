@@ -36,9 +36,9 @@ module _ (w : Walk) (i : ℕ) (h : i < w.net.now.job.counts.segments) where
   pub leaf-there : at w.links.now.first (i + 1) ≡ w.net.now.job.counts.segments → Hanging (net_of w) (sizing_of w) i nothing
   leaf-there = leaf-hanging w.net.now.ready i _ h child-first
 
-  pub seat-there : (r : ℕ) → get_or w.seats i None ≡ Some r → Parted w i → Hanging (net_of w) (sizing_of w) i (part_at w.parts r)
+  pub seat-there : (r : ℕ) → get_or w.seats.now i None ≡ Some r → Parted w i → Hanging (net_of w) (sizing_of w) i (part_at w.parts r)
   seat-there r e p = let s = w.seated.only i r h e in rw s.1 at (p.held r s.0 (omega (arith, s.1)))
 
-  pub bare-there : get_or w.seats i None ≡ None → (u : Part) → CountedUp w siblings (at w.links.now.first (i + 1)) u
+  pub bare-there : get_or w.seats.now i None ≡ None → (u : Part) → CountedUp w siblings (at w.links.now.first (i + 1)) u
       → Hanging (net_of w) (sizing_of w) i u
   bare-there e u v = bare-hanging w.net.now.ready i u (seat-none _ w.seated i e) (below-tally w.net.now.ready i _ h child-first u v)

@@ -18,23 +18,23 @@ use quantity::{Capacitance, Delay, Resistance};
 use stages::{DelayAndLoad, SizedJob};
 use tables::Walk;
 
-// The segments, as the sizing has them: the walk over the tree then reads no job.
-fn segments(net: &SizedJob<'_>) -> [Segment; 64]
-    ensures { SizedTo (net_by net.now.job.counts net.now.job.bytes.now) net.now.sizing.now net.now.job.counts.segments result }
+// A segment that is not sized yet.
+const UNSIZED: Segment = Segment {
+    weight: 0,
+    sink: Capacitance(0),
+    wire: Wire {
+        resistance: Resistance(0),
+        capacitance: Capacitance(0),
+    },
+};
+
+// The segments, as the sizing has them: the walk over the tree then reads no job. The table is lent, because one that is returned is copied.
+fn size_segments(net: &SizedJob<'_>, segments: &mut [Segment; 64])
+    ensures { SizedTo (net_by net.now.job.counts net.now.job.bytes.now) net.now.sizing.now net.now.job.counts.segments segments.new }
 {
-    let none = Segment {
-        weight: 0,
-        sink: Capacitance(0),
-        wire: Wire {
-            resistance: Resistance(0),
-            capacitance: Capacitance(0),
-        },
-    };
-    let mut segments = [none; 64];
     for i in 0..net.job.counts.segments {
         segments[i] = parts::sized(net, i);
     }
-    segments
 }
 
 impl Walk<'_> {
@@ -76,7 +76,7 @@ impl Walk<'_> {
     // Counts up what hangs at each repeater's segment, and answers what all repeaters charge. From the last repeater to the first: those behind it have
     // larger numbers.
     fn repeat_all(&mut self) -> Capacitance
-        ensures kept { (self.new.net ≡ self.old.net) × (self.new.links ≡ self.old.links) }
+        ensures kept { self.new.net ≡ self.old.net }
         ensures parts { AllParted self.new }
         ensures charge { RepeatersCharge (net_of self.new) (sizing_of self.new) result }
     {
@@ -96,11 +96,15 @@ fn whole(net: &SizedJob<'_>, links: &Links) -> PartAndCharge
     requires { LinkedBy net.now.job.counts net.now.job.bytes.now links.now.first links.now.next }
     ensures { WholeOf (net_by net.now.job.counts net.now.job.bytes.now) net.now.sizing.now result }
 {
+    let mut segments = [UNSIZED; 64];
+    size_segments(net, &mut segments);
+    let mut seats = [None; 64];
+    parts::seat(&net.job, &mut seats);
     let mut walk = Walk {
-        net,
-        links,
-        segments: segments(net),
-        seats: parts::seats(&net.job),
+        net: &*net,
+        links: &*links,
+        segments: &segments,
+        seats: &seats,
         parts: [NOTHING; 8],
     };
     let charge = walk.repeat_all();

@@ -14,10 +14,10 @@ use stages::SizedJob;
 pub struct Walk<'w> {
     pub net: &'w SizedJob<'w>,
     pub links: &'w Links,
-    pub segments: [Segment; 64],
-    pub seats: [Option<u8>; 64],
+    pub segments: &'w [Segment; 64],
+    pub seats: &'w [Option<u8>; 64],
     pub parts: [Part; 8],
     ghost linked: { LinkedBy net.now.job.counts net.now.job.bytes.now links.now.first links.now.next },
-    ghost sized: { SizedTo (net_by net.now.job.counts net.now.job.bytes.now) net.now.sizing.now net.now.job.counts.segments segments },
-    ghost seated: { Seated (net_by net.now.job.counts net.now.job.bytes.now) seats },
+    ghost sized: { SizedTo (net_by net.now.job.counts net.now.job.bytes.now) net.now.sizing.now net.now.job.counts.segments segments.now },
+    ghost seated: { Seated (net_by net.now.job.counts net.now.job.bytes.now) seats.now },
 }

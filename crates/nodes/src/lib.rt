@@ -30,19 +30,19 @@ fn branch(net: &SizedJob<'_>, seats: &[Option<u8>; 64], i: usize, part: Part) ->
     requires tally { Tally (net_by net.now.job.counts net.now.job.bytes.now) net.now.sizing.now branches_of (suc i) part }
     ensures { Tally (net_by net.now.job.counts net.now.job.bytes.now) net.now.sizing.now branch_of i result }
 {
-    parts::sized(net, i).behind(hanging(net, seats, i, part))
+    let hangs = hanging(net, seats, i, part);
+    parts::sized(net, i).behind(hangs)
 }
 
-// The branches at all nodes. Each branch joins those at the node that its segment hangs at.
-pub fn count_up(net: &SizedJob<'_>, seats: &[Option<u8>; 64]) -> [Part; 65]
+// The branches at all nodes. Each branch joins those at the node that its segment hangs at. The table is lent, because one that is returned is copied.
+pub fn count_up(net: &SizedJob<'_>, seats: &[Option<u8>; 64], nodes: &mut [Part; 65])
     requires { Seated (net_by net.now.job.counts net.now.job.bytes.now) seats.now }
-    ensures { Counted (net_by net.now.job.counts net.now.job.bytes.now) net.now.sizing.now result }
+    ensures { Counted (net_by net.now.job.counts net.now.job.bytes.now) net.now.sizing.now nodes.new }
 {
-    let mut nodes = [parts::NOTHING; 65];
+    *nodes = [parts::NOTHING; 65];
     for i in (0..net.job.counts.segments).rev() {
         let one = branch(net, seats, i, nodes[i + 1]);
         let q = net.job.parent(i);
         nodes[q] = nodes[q] + one;
     }
-    nodes
 }

@@ -99,16 +99,15 @@ pub fn sized(net: &SizedJob<'_>, i: usize) -> Segment
     }
 }
 
-// Which repeater sits at the far end of each segment.
-pub fn seats(job: &Job<'_>) -> [Option<u8>; 64]
-    ensures { Seated (net_by job.now.counts job.now.bytes.now) result }
+// Gives each repeater its seat: its number stands at its segment. The table is lent, because one that is returned is copied.
+pub fn seat(job: &Job<'_>, seats: &mut [Option<u8>; 64])
+    ensures { Seated (net_by job.now.counts job.now.bytes.now) seats.new }
 {
-    let mut seats = [None; 64];
+    *seats = [None; 64];
     for r in 0..job.counts.repeaters {
         let i = job.site(r);
         seats[i] = Some(r as u8);
     }
-    seats
 }
 
 // The branches that repeater r drives, as they hang behind it: above it only its gate is seen, and each sink below it waits for it. And what it

@@ -6,6 +6,6 @@ pub returns : goal.returns
 returns c =
     let charged = c.repeat_all-charge.ensures in
     record {
-      source = source-tally c.args.net.now.ready c.requires _ (rw charged.kept.0 at c.branches.ensures);
-      charge = rw charged.kept.0 at charged.charge;
+      source = source-tally c.args.net.now.ready c.requires _ (rw charged.kept at c.branches.ensures);
+      charge = rw charged.kept at charged.charge;
     }

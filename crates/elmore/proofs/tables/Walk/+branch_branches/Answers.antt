@@ -14,11 +14,11 @@ use Rattle.elmore.proofs.Walking.{parted-later, child-later, leaf-there, seat-th
 use Rattle.elmore.proofs.tables.Walk.+branch_branches.Goals as goal
 
 -- segment i with what hangs at its far end
-room : (w : Walk) (i : ℕ) → i < w.net.now.job.counts.segments → (u : Part) → Hanging (net_of w) (sizing_of w) i u → RoomBehind (segment_at w.segments i) u
+room : (w : Walk) (i : ℕ) → i < w.net.now.job.counts.segments → (u : Part) → Hanging (net_of w) (sizing_of w) i u → RoomBehind (segment_at w.segments.now i) u
 room w i h u v = behind-room w.net.now.ready i h _ u (w.sized.held i h) v
 
 whole : (w : Walk) (i : ℕ) → i < w.net.now.job.counts.segments → (u : Part) → Hanging (net_of w) (sizing_of w) i u → (r : Part)
-    → Behind (segment_at w.segments i) u r → CountedUp w branch_of i r
+    → Behind (segment_at w.segments.now i) u r → CountedUp w branch_of i r
 whole w i h u v = behind-tally w.net.now.ready i h _ u (w.sized.held i h) v
 
 pub branch-behind-requires : goal.branch-behind-requires

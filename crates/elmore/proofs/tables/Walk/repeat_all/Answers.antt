@@ -33,9 +33,8 @@ loop-r-preserved c =
     let p = rw e at l.invariant.repeated in
     record {
       net = l.invariant.net;
-      links = l.invariant.links;
       repeated = repeated-step _ _ (l.r - 1) _ _ p _ c.repeated-one.ensures (omega (arith, p.within, l.self.net.now.job.checked.few_repeaters)) _ c.add-all.ensures.0;
     }
 
 pub returns-clause-charge : goal.returns-clause-charge
-returns-clause-charge c = let l = c.loop-r in record { all = (repeated-all _ _ l.r _ _ (omega arith) l.invariant.repeated).1 }
+returns-clause-charge c = let l = c.loop-r in record { all = repeated-all _ _ l.r _ _ (omega arith) l.invariant.repeated }

@@ -8,6 +8,5 @@ abbrev pub invariant-loop-r : goal.invariant-loop-r
 invariant-loop-r l =
     record {
       net : l.self.net ≡ l.fn.self.net;
-      links : l.self.links ≡ l.fn.self.links;
       repeated : RepeatedFrom (net_of l.self) (sizing_of l.self) l.r l.self.parts l.all.0;
     }

@@ -1,7 +1,7 @@
--- `elmore::segments` meets its contract; the loop's invariant is that the segments passed are in the table.
+-- `elmore::size_segments` meets its contract; the loop's invariant is that the segments passed are in the table.
 use Rattle.net.specs.Net.{net_by}
 use Rattle.elmore.specs.Tables.{SizedTo}
-use Rattle.elmore.proofs.segments.Given as goal
+use Rattle.elmore.proofs.size_segments.Given as goal
 
 abbrev pub invariant-loop-i : goal.invariant-loop-i
 invariant-loop-i l = SizedTo (net_by l.net.job.counts l.net.job.bytes.now) l.net.sizing.now l.i l.segments

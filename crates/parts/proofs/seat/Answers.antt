@@ -1,8 +1,8 @@
--- `parts::seats` meets its contract; the loop's invariant is that the repeaters passed have their seats.
+-- `parts::seat` meets its contract; the loop's invariant is that the repeaters passed have their seats.
 use native.Mathlib.Omega.{arith}
 use Rattle.net.proofs.Questions.{ordered}
 use Rattle.parts.proofs.Seating.{seated-start, seated-step}
-use Rattle.parts.proofs.seats.Goals as goal
+use Rattle.parts.proofs.seat.Goals as goal
 
 pub loop-r-init : goal.loop-r-init
 loop-r-init c = seated-start _ c.args.job.now.checked.few_segments
