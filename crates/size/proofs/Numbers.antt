@@ -18,6 +18,9 @@ use Rattle.net.specs.Checked.{Checked}
 use Rattle.net.specs.Questions.{refusal}
 use Rattle.net.specs.Answers.{reply_length, size_number, bounds_reply, size_buffer}
 use Rattle.net.proofs.Promises.{promises, refusal-apart, size-fails, size-passes, buffer-refused}
+use Rattle.refusal.specs.declared.Refusal.{Refusal}
+use Rattle.refusal.specs.Numbers.{number_of}
+use Rattle.refusal.proofs.Positive.{number-positive}
 use Rattle.positions.specs.Arranged.{PositionsOf}
 use Rattle.reply.specs.Records.{bounds_replied}
 use Rattle.reply.proofs.Places.{reply-same}
@@ -56,10 +59,13 @@ settled : (job before : List ℕ) (n : ℕ) (after : List ℕ) → n ≡ size_nu
 settled job before n after e f = (e, (f, rw (e, f) (promises job before)))
 
 module _ (job before : List ℕ) where
-  pub size-job : (n : ℕ) → n ≡ refusal job → (n ≡ 0 → ⊥) → Settled job before n before
-  size-job n e z =
+  size-refused : (n : ℕ) → n ≡ refusal job → (n ≡ 0 → ⊥) → Settled job before n before
+  size-refused n e z =
       let f : size_number job (length before) ≡ n = size-fails job (length before) (λ g. z (e ∙ g)) ∙ sym e in
       settled job before n before (sym f) (sym (buffer-refused job before (λ g. z (sym f ∙ g)) (λ g. refusal-apart job 14 (lit≤ tt) (lit≤ tt) (sym e ∙ sym f ∙ g))))
+
+  pub size-job : (r : Refusal) → number_of r ≡ refusal job → Settled job before (number_of r) before
+  size-job r e = size-refused (number_of r) e (λ f. let h = number-positive r in omega arith)
 
   module _ {c : Counts} (k : Checked c job) (passes : refusal job ≡ 0) where
     net-is : net_by c job ≡ net_of job
