@@ -1,5 +1,5 @@
 -- What the search asks of its tables and its state, and what it leaves: cited by the contracts of this crate.
-use Rattle.std.specs.Prelude.{◌≡◌, false, cond, Option, Some, None, List, ℕ, suc, ◌+◌, ◌*◌, ◌^◌, ◌≤◌, ◌<◌, length}
+use Rattle.std.specs.Prelude.{◌≡◌, true, false, cond, Option, Some, None, List, ℕ, suc, ◌+◌, ◌*◌, ◌-◌, ◌^◌, ◌≤◌, ◌<◌, length}
 use Rattle.lattice.specs.Lists.{at}
 use Rattle.lattice.specs.Space.{Allowed}
 use Rattle.lattice.specs.Search.{Found, takes, cover}
@@ -65,6 +65,12 @@ pub record Sized (net : Driving) (lower upper upstream driven ups : List ℕ) (l
   pub adds : added ≡ fixed_from net lower upper driven 0 + priced_from net lower upper upstream x left
   pub lean_long : length lean ≡ net.places
   pub wide_long : length wide ≡ net.places
+
+-- The place before `left` is free, and the free places from `left` on are sized by x; `best` was found before.
+pub record FreeBefore (net : Driving) (lower upper upstream driven ups : List ℕ) (left added : ℕ) (x gathered : List ℕ) (best : Found) : Type 0 where
+  pub some : 0 < left
+  pub frees : free lower upper (left - 1) ≡ true
+  pub sized : Sized net lower upper upstream driven ups left added x gathered best.lean best.wide
 
 -- Every sizing between the bounds that has the indices of x from `left` on was taken, what stands from `left` on is as it was, and so are the
 -- held places.

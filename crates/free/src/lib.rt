@@ -8,7 +8,7 @@ ghost use Rattle.job.specs.Tables.{TableOf};
 ghost use Rattle.place.specs.ByCounts.{StepInLimits};
 ghost use Rattle.envelope.specs.Kept.{SameSpace};
 ghost use Rattle.free.specs.Searching.{AllFit, PassedBy, first_of};
-ghost use Rattle.free.specs.ByTables.{IsAt, SizedBy, LastFree, PassedAt, SearchedFrom};
+ghost use Rattle.free.specs.ByTables.{IsAt, IsBefore, IsLast, PassedAt, SearchedFrom};
 
 mod prepared;
 
@@ -82,8 +82,8 @@ impl SearchTables<'_, '_, '_> {
         gathered: &[Capacitance; 77],
         kept: &mut Kept<'_>,
     )
-        requires sized_by { SizedBy self.now left added.0 x.old gathered.now kept.old }
-        requires last_free { LastFree self.now left }
+        requires before { IsBefore self.now left added.0 x.old gathered.now kept.old }
+        requires last { IsLast self.now left }
         requires passed_at { PassedAt self.now left added.0 gathered.now kept.old.least.0 start }
         ensures same_space { SameSpace kept.old kept.new }
         ensures searched { SearchedFrom self.now left x.old gathered.now kept.old x.new gathered.now kept.new }

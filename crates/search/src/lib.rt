@@ -6,7 +6,7 @@ ghost use Rattle.std.specs.Prelude.{◌≡◌};
 ghost use Rattle.net.specs.Checked.{ForPlaces};
 ghost use Rattle.envelope.specs.Kept.{found_of, SameSpace};
 ghost use Rattle.free.specs.Searching.{Between, taken_between};
-ghost use Rattle.free.specs.ByTables.{MoreFree, SizedBy, SearchedFrom};
+ghost use Rattle.free.specs.ByTables.{IsBefore, HasMore, SearchedFrom};
 
 use envelope::Kept;
 use free::SearchTables;
@@ -24,8 +24,8 @@ fn search(
     gathered: &mut [Capacitance; 77],
     kept: &mut Kept<'_>,
 )
-    requires sized_by { SizedBy tables.now left added.0 x.old gathered.old kept.old }
-    requires more_free { MoreFree tables.now left }
+    requires before { IsBefore tables.now left added.0 x.old gathered.old kept.old }
+    requires more { HasMore tables.now left }
     ensures same_space { SameSpace kept.old kept.new }
     ensures searched { SearchedFrom tables.now left x.old gathered.old kept.old x.new gathered.new kept.new }
 {

@@ -37,13 +37,13 @@ bounds-tables-left-then-tables-left-eq0 c =
     let k = c.args.tables.now.prepared.checked in
     omega (arith, c.places.ensures.0, rw (← c.places.ensures.0) at (skip-le c.args.tables.now.bounds.lower.now c.args.tables.now.bounds.upper.now (net_of c.args.tables.now).places c.args.tables.now.skips c.args.tables.now.prepared.skipped (net_of c.args.tables.now).places (omega arith)), k.few_stages, k.few_segments, k.few_repeaters, ((allowed-by (net_of c.args.tables.now) c.args.tables.now.bounds.lower.now).0 c.args.tables.now.prepared.lower_allowed).long)
 
-pub take_from-requires-clause-sized_by : goal.take_from-requires-clause-sized_by
-take_from-requires-clause-sized_by c =
-    rw c.places.ensures.0 (start-sized c.args.tables.now.prepared c.args.tables.now.fixed.0 _ refl c.requires.x_value c.args.tables.now.held_add c.requires.for_places.0 c.requires.for_places.1)
-
-pub take_from-requires-clause-last_free : goal.take_from-requires-clause-last_free
-take_from-requires-clause-last_free c =
-    (omega (arith, c.if-left-eq0.false), rw c.places.ensures.0 (skip-free c.args.tables.now.bounds.lower.now c.args.tables.now.bounds.upper.now (net_of c.args.tables.now).places c.args.tables.now.skips c.args.tables.now.prepared.skipped (net_of c.args.tables.now).places (omega arith) (rw c.places.ensures.0 at c.if-left-eq0.false)), c.if-tables-left-eq0.true)
+pub take_from-requires-clause-before : goal.take_from-requires-clause-before
+take_from-requires-clause-before c =
+    record {
+      some = omega (arith, c.if-left-eq0.false);
+      frees = rw c.places.ensures.0 (skip-free c.args.tables.now.bounds.lower.now c.args.tables.now.bounds.upper.now (net_of c.args.tables.now).places c.args.tables.now.skips c.args.tables.now.prepared.skipped (net_of c.args.tables.now).places (omega arith) (rw c.places.ensures.0 at c.if-left-eq0.false));
+      sized = rw c.places.ensures.0 (start-sized c.args.tables.now.prepared c.args.tables.now.fixed.0 _ refl c.requires.x_value c.args.tables.now.held_add c.requires.for_places.0 c.requires.for_places.1);
+    }
 
 pub take_from-requires-clause-passed_at : goal.take_from-requires-clause-passed_at
 take_from-requires-clause-passed_at c =
@@ -54,13 +54,13 @@ pub returns-then-tables-left-eq0-clause-taken : goal.returns-then-tables-left-eq
 returns-then-tables-left-eq0-clause-taken c =
     start-found c.args.tables.now.prepared c.requires.x_value (rw c.places.ensures.0 at c.take_from.ensures.searched)
 
-pub search-requires-clause-sized_by : goal.search-requires-clause-sized_by
-search-requires-clause-sized_by c =
-    rw c.places.ensures.0 (start-sized c.args.tables.now.prepared c.args.tables.now.fixed.0 _ refl c.requires.x_value c.args.tables.now.held_add c.requires.for_places.0 c.requires.for_places.1)
-
-pub search-requires-clause-more_free : goal.search-requires-clause-more_free
-search-requires-clause-more_free c =
-    (omega (arith, c.if-left-eq0.false), rw c.places.ensures.0 (skip-free c.args.tables.now.bounds.lower.now c.args.tables.now.bounds.upper.now (net_of c.args.tables.now).places c.args.tables.now.skips c.args.tables.now.prepared.skipped (net_of c.args.tables.now).places (omega arith) (rw c.places.ensures.0 at c.if-left-eq0.false)), omega (arith, c.if-tables-left-eq0.false))
+pub search-requires-clause-before : goal.search-requires-clause-before
+search-requires-clause-before c =
+    record {
+      some = omega (arith, c.if-left-eq0.false);
+      frees = rw c.places.ensures.0 (skip-free c.args.tables.now.bounds.lower.now c.args.tables.now.bounds.upper.now (net_of c.args.tables.now).places c.args.tables.now.skips c.args.tables.now.prepared.skipped (net_of c.args.tables.now).places (omega arith) (rw c.places.ensures.0 at c.if-left-eq0.false));
+      sized = rw c.places.ensures.0 (start-sized c.args.tables.now.prepared c.args.tables.now.fixed.0 _ refl c.requires.x_value c.args.tables.now.held_add c.requires.for_places.0 c.requires.for_places.1);
+    }
 
 pub returns-else-tables-left-eq0-clause-taken : goal.returns-else-tables-left-eq0-clause-taken
 returns-else-tables-left-eq0-clause-taken c =

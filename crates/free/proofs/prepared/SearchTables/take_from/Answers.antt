@@ -18,18 +18,18 @@ use Rattle.free.proofs.prepared.SearchTables.take_from.Goals.{After-le, then-le,
 pub free_place-here-requires : goal.free_place-here-requires
 free_place-here-requires c =
     let r = c.requires in
-    few c.args.self.now.prepared r.sized_by c.args.kept.now.least.0 r.last_free.0 r.last_free.1
+    few c.args.self.now.prepared r.before
 
 pub add-load-requires : goal.add-load-requires
 add-load-requires c =
     let r = c.requires in
-    omega (arith, c.free_place-here.ensures.driven, gathered-at c.args.gathered.now c.args.left _ 0 (omega arith) refl, load-most c.args.self.now.prepared r.sized_by c.args.kept.now.least.0 r.last_free.0 r.last_free.1 _ refl)
+    omega (arith, c.free_place-here.ensures.driven, gathered-at c.args.gathered.now c.args.left _ 0 (omega arith) refl, load-most c.args.self.now.prepared r.before _ refl)
 
 pub loop-k-init : goal.loop-k-init
 loop-k-init c =
     let r = c.requires in
     record {
-      turning = passed_to c.args.self.now.prepared r.sized_by c.args.kept.now.least.0 r.last_free.0 r.last_free.1 r.last_free.2 c.args.start r.passed_at;
+      turning = passed_to c.args.self.now.prepared r.before r.last c.args.start r.passed_at;
       same_space = record { lean = refl; wide = refl; lean_long = refl; wide_long = refl };
     }
 
@@ -39,13 +39,12 @@ step-step-requires-clause-step_in_limits c =
     let l = c.loop-k in
     let f = c.free_place-here.ensures in
     let p = c.args.self.now.prepared in
-    let least = c.args.kept.now.least.0 in
     limits-at f c.from.result c.add-load.result.0 (
-      place-few p r.sized_by least r.last_free.0 r.last_free.1,
-      rw c.from.ensures (high-at p r.sized_by least r.last_free.0 r.last_free.1 l.invariant.turning (inside-at f l.k (omega arith))),
-      weight-most p r.sized_by least r.last_free.0 r.last_free.1,
-      resistance-most p r.sized_by least r.last_free.0 r.last_free.1,
-      load-most p r.sized_by least r.last_free.0 r.last_free.1 _ (loaded f c.args.gathered.now c.args.left _ r.last_free.0 c.add-load.ensures.0),
+      place-few p r.before,
+      rw c.from.ensures (high-at p r.before l.invariant.turning (inside-at f l.k (omega arith))),
+      weight-most p r.before,
+      resistance-most p r.before,
+      load-most p r.before _ (loaded f c.args.gathered.now c.args.left _ r.before.some c.add-load.ensures.0),
     )
 
 pub add-reached-requires : goal.add-reached-requires
@@ -53,13 +52,13 @@ add-reached-requires c =
     let r = c.requires in
     let l = c.loop-k in
     let f = c.free_place-here.ensures in
-    fits c.args.self.now.prepared r.sized_by c.args.kept.now.least.0 r.last_free.0 r.last_free.1 l.invariant.turning (inside-at f l.k (omega arith)) _
-    (loaded f c.args.gathered.now c.args.left _ r.last_free.0 c.add-load.ensures.0) c.step-step.result (step-at f l.k c.add-load.result.0 c.step-step.result (rw c.from.ensures at c.step-step.ensures))
+    fits c.args.self.now.prepared r.before l.invariant.turning (inside-at f l.k (omega arith)) _
+    (loaded f c.args.gathered.now c.args.left _ r.before.some c.add-load.ensures.0) c.step-step.result (step-at f l.k c.add-load.result.0 c.step-step.result (rw c.from.ensures at c.step-step.ensures))
 
 pub bounds-x-t : goal.bounds-x-t
 bounds-x-t c =
     let l = c.loop-k in
-    omega (arith, c.requires.sized_by.few, c.requires.last_free.0, ((allowed-by (net_of c.args.self.now) l.x).0 l.invariant.turning.allowed).long)
+    omega (arith, c.requires.before.sized.few, c.requires.before.some, ((allowed-by (net_of c.args.self.now) l.x).0 l.invariant.turning.allowed).long)
 
 pub keep-requires-clause-lean_len : goal.keep-requires-clause-lean_len
 keep-requires-clause-lean_len c =
@@ -84,18 +83,18 @@ module _ (c : After-le) where
       let r = c.requires in
       let l = c.loop-k in
       let here = c.free_place-here.ensures in
-      taken c.args.self.now.prepared r.sized_by c.args.kept.now.least.0 r.last_free.0 r.last_free.1 l.invariant.turning (inside-at here l.k (omega arith)) _
-      (loaded here c.args.gathered.now c.args.left _ r.last_free.0 c.add-load.ensures.0) c.step-step.result
-      (step-at here l.k c.add-load.result.0 c.step-step.result (rw c.from.ensures at c.step-step.ensures)) r.last_free.2 _ c.add-reached.ensures.0 f lean wide e
+      taken c.args.self.now.prepared r.before l.invariant.turning (inside-at here l.k (omega arith)) _
+      (loaded here c.args.gathered.now c.args.left _ r.before.some c.add-load.ensures.0) c.step-step.result
+      (step-at here l.k c.add-load.result.0 c.step-step.result (rw c.from.ensures at c.step-step.ensures)) r.last _ c.add-reached.ensures.0 f lean wide e
 
   passed-turn : c.loop-k.kept.least.0 < c.add-reached.result.0 → turning c.loop-k.x (found_of c.loop-k.kept)
   passed-turn more =
       let r = c.requires in
       let l = c.loop-k in
       let here = c.free_place-here.ensures in
-      passed c.args.self.now.prepared r.sized_by c.args.kept.now.least.0 r.last_free.0 r.last_free.1 l.invariant.turning (inside-at here l.k (omega arith)) _
-      (loaded here c.args.gathered.now c.args.left _ r.last_free.0 c.add-load.ensures.0) c.step-step.result
-      (step-at here l.k c.add-load.result.0 c.step-step.result (rw c.from.ensures at c.step-step.ensures)) r.last_free.2 _ c.add-reached.ensures.0 more
+      passed c.args.self.now.prepared r.before l.invariant.turning (inside-at here l.k (omega arith)) _
+      (loaded here c.args.gathered.now c.args.left _ r.before.some c.add-load.ensures.0) c.step-step.result
+      (step-at here l.k c.add-load.result.0 c.step-step.result (rw c.from.ensures at c.step-step.ensures)) r.last _ c.add-reached.ensures.0 more
 
 pub loop-k-preserved : goal.loop-k-preserved
 loop-k-preserved c =
@@ -114,7 +113,7 @@ returns-clause-searched c =
     let r = c.requires in
     let l = c.loop-k in
     let f = c.free_place-here.ensures in
-    ended c.args.self.now.prepared r.sized_by c.args.kept.now.least.0 r.last_free.0 r.last_free.1 _ l.invariant.turning (outside-at f l.k (omega arith)) refl
+    ended c.args.self.now.prepared r.before _ l.invariant.turning (outside-at f l.k (omega arith)) refl
 
 pub returns-after-le-clause-searched : goal.returns-after-le-clause-searched
 returns-after-le-clause-searched c =
@@ -123,7 +122,7 @@ returns-after-le-clause-searched c =
     let past = outside-at c.free_place-here.ensures (c.loop-k.k + 1) (omega arith) in
     elim c.if-le.branch [
       | then-le w ↦ let new = w.keep.ensures.same_space in
-          rw (w.x-is, w.kept-is) (ended c.args.self.now.prepared r.sized_by c.args.kept.now.least.0 r.last_free.0 r.last_free.1 _ (kept-turn turn _ new.lean_long new.wide_long w.keep.ensures.taken) past refl)
+          rw (w.x-is, w.kept-is) (ended c.args.self.now.prepared r.before _ (kept-turn turn _ new.lean_long new.wide_long w.keep.ensures.taken) past refl)
       | else-le w ↦ let h = w.if-le.ensures in
-          rw (w.x-is, w.kept-is) (ended c.args.self.now.prepared r.sized_by c.args.kept.now.least.0 r.last_free.0 r.last_free.1 _ (passed-turn turn (grind (arith, nat_tests))) past refl)
+          rw (w.x-is, w.kept-is) (ended c.args.self.now.prepared r.before _ (passed-turn turn (grind (arith, nat_tests))) past refl)
     ]
