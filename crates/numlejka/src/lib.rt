@@ -6,7 +6,7 @@ ghost use Rattle.net.specs.Answers.{measured, refined, size_number, size_buffer}
 ghost use Rattle.net.specs.Promises.{Promises};
 ghost use Rattle.numlejka.specs.Results.{answered, chosen_slice};
 
-use operations::{Measurement, Preference, Refinement};
+use operations::Preference;
 
 // The scaled delay and the load figure of a sizing, written where the number is 0.
 #[unsafe(no_mangle)]
@@ -23,12 +23,12 @@ pub extern "C" fn numlejka_measure(
         ≡ answered result (measured job.now sizing.now).load load.old }
 {
     match operations::measure(job, sizing) {
-        Measurement::Figures(figures) => {
+        Ok(figures) => {
             *delay = figures.delay.0;
             *load = figures.load.0;
             0
         }
-        Measurement::Refused(number) => number,
+        Err(refusal) => refusal.number(),
     }
 }
 
@@ -52,13 +52,13 @@ pub extern "C" fn numlejka_refine(
         ≡ answered result (refined job.now sizing.now place).delay delay.old }
 {
     match operations::refine(job, sizing, place) {
-        Refinement::Best(best) => {
+        Ok(best) => {
             *lowest = best.lowest;
             *highest = best.highest;
             *delay = best.delay.0;
             0
         }
-        Refinement::Refused(number) => number,
+        Err(question) => question.number(),
     }
 }
 
@@ -68,9 +68,9 @@ pub extern "C" fn numlejka_choose(job: &[u8], x: &[u8], y: &[u8]) -> usize
     ensures { result ≡ chosen_slice job.now x.now y.now }
 {
     match operations::prefer(job, x, y) {
-        Preference::First(_) => 1,
-        Preference::Second(_) => 2,
-        Preference::Neither => 0,
+        Some(Preference::First(_)) => 1,
+        Some(Preference::Second(_)) => 2,
+        None => 0,
     }
 }
 
@@ -81,5 +81,8 @@ pub extern "C" fn numlejka_size(job: &[u8], reply: &mut [u8]) -> usize
     ensures buffer { reply.new ≡ size_buffer job.now reply.old }
     ensures promises { Promises job.now reply.old result reply.new }
 {
-    size::size(job, reply)
+    match size::size(job, reply) {
+        Ok(answer) => answer.number(),
+        Err(failed) => failed.number(),
+    }
 }

@@ -2,17 +2,11 @@
 use Rattle.numlejka.proofs.Results.{choose-first, choose-second, choose-neither}
 use Rattle.numlejka.proofs.numlejka_choose.Goals as goal
 
-pub returns-in-First : goal.returns-in-First
-returns-in-First c =
-    let b = c in
-    choose-first b.args.job.now b.args.x.now b.args.y.now c.in-First.field-0 c.in-First.ensures
+pub returns-in-Some-First : goal.returns-in-Some-First
+returns-in-Some-First c = choose-first c.args.job.now c.args.x.now c.args.y.now _ (rw c.in-Some-First.field-0-is at c.in-Some-First.ensures)
 
-pub returns-in-Second : goal.returns-in-Second
-returns-in-Second c =
-    let b = c in
-    choose-second b.args.job.now b.args.x.now b.args.y.now c.in-Second.field-0 c.in-Second.ensures
+pub returns-in-Some-Second : goal.returns-in-Some-Second
+returns-in-Some-Second c = choose-second c.args.job.now c.args.x.now c.args.y.now _ (rw c.in-Some-Second.field-0-is at c.in-Some-Second.ensures)
 
-pub returns-in-Neither : goal.returns-in-Neither
-returns-in-Neither c =
-    let b = c in
-    choose-neither b.args.job.now b.args.x.now b.args.y.now c.in-Neither.ensures
+pub returns-in-None : goal.returns-in-None
+returns-in-None c = choose-neither c.args.job.now c.args.x.now c.args.y.now c.in-None.ensures

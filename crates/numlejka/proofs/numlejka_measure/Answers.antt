@@ -2,16 +2,12 @@
 use Rattle.numlejka.proofs.Results.{measure-answer, measure-refusal}
 use Rattle.numlejka.proofs.numlejka_measure.Goals as goal
 
-pub returns-in-Figures : goal.returns-in-Figures
-returns-in-Figures c =
-    let b = c in
-    let m = c.measure in
-    let h = measure-answer b.args.job.now b.args.sizing.now m.result m.ensures.answer c.in-Figures.figures c.in-Figures.is in
+pub returns-in-Ok : goal.returns-in-Ok
+returns-in-Ok c =
+    let h = measure-answer c.args.job.now c.args.sizing.now c.in-Ok.figures c.in-Ok.ensures in
     record { number = h.0; delay = h.1; load = h.2 }
 
-pub returns-in-Refused : goal.returns-in-Refused
-returns-in-Refused c =
-    let b = c in
-    let m = c.measure in
-    let h = measure-refusal b.args.job.now b.args.sizing.now m.result m.ensures.answer c.in-Refused.number b.args.delay.now b.args.load.now c.in-Refused.is m.ensures.refusal in
+pub returns-in-Err : goal.returns-in-Err
+returns-in-Err c =
+    let h = measure-refusal c.args.job.now c.args.sizing.now c.in-Err.refusal c.number.result c.args.delay.now c.args.load.now c.number.ensures.number c.in-Err.ensures in
     record { number = h.0; delay = h.1; load = h.2 }

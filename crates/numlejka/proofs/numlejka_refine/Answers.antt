@@ -2,16 +2,12 @@
 use Rattle.numlejka.proofs.Results.{refine-answer, refine-refusal}
 use Rattle.numlejka.proofs.numlejka_refine.Goals as goal
 
-pub returns-in-Best : goal.returns-in-Best
-returns-in-Best c =
-    let b = c in
-    let m = c.refine in
-    let h = refine-answer b.args.job.now b.args.sizing.now b.args.place m.result m.ensures.answer c.in-Best.best c.in-Best.is in
+pub returns-in-Ok : goal.returns-in-Ok
+returns-in-Ok c =
+    let h = refine-answer c.args.job.now c.args.sizing.now c.args.place c.in-Ok.best c.in-Ok.ensures in
     record { number = h.0; lowest = h.1; highest = h.2; delay = h.3 }
 
-pub returns-in-Refused : goal.returns-in-Refused
-returns-in-Refused c =
-    let b = c in
-    let m = c.refine in
-    let h = refine-refusal b.args.job.now b.args.sizing.now b.args.place m.result m.ensures.answer c.in-Refused.number b.args.lowest.now b.args.highest.now b.args.delay.now c.in-Refused.is m.ensures.refusal in
+pub returns-in-Err : goal.returns-in-Err
+returns-in-Err c =
+    let h = refine-refusal c.args.job.now c.args.sizing.now c.args.place c.in-Err.question c.number.result c.args.lowest.now c.args.highest.now c.args.delay.now c.number.ensures.number c.in-Err.ensures in
     record { number = h.0; lowest = h.1; highest = h.2; delay = h.3 }
