@@ -1,100 +1,74 @@
--- Laws of the programs' lines: the parts that the code puts one behind another, and what a loop over places has left to put.
-use mathlib.Core.Path.{◌≡◌, ap, ◌∙◌}
-use mathlib.Core.Bool.{Bool, true}
-use mathlib.Core.List.{List, [], ◌++◌, flat_map, append_assoc}
-use Prim.Native.Nat.{ℕ, suc, ◌+◌, ◌*◌, ◌-◌, ◌≤◌, ◌<◌}
-use native.Mathlib.Nat.{sub-zero}
+-- Laws of the programs' lines: the parts that the code puts one behind another, and the lines of places one behind another.
+use mathlib.Core.Path.{◌≡◌, refl, ap, ◌∙◌}
+use mathlib.Core.List.{List, [], ◌++◌, flat_map, append_assoc, append-nil}
+use Rattle.std.specs.Prelude.{Option}
+use Prim.Native.Nat.{ℕ, zero, suc, ◌+◌, ◌*◌, ◌≤◌, ◌<◌}
+use native.Mathlib.Nat.{add-zero}
 use native.Mathlib.Numerals.{add-one}
 use native.Mathlib.Omega.{arith}
-use lib.ListN.{length, drop, get_or, length-append}
-use lib.Seq.{sets-eq}
+use lib.ListN.{length, take, drop, get_or, length-append}
+use lib.Seq.{sets-eq, drop-cons}
 use Rattle.io.specs.Counts.{IsPrefixLen as Within}
 use Rattle.io.proofs.Counting.{prefix_len_of_le}
 use Rattle.text.specs.Spelling.{ascii, spelling}
 use Rattle.text.specs.Writing.{Wrote}
-use Rattle.text.proofs.Writing.{Left, left-start, left_step, left_end}
 use Rattle.lattice.specs.Lists.{from}
-use Rattle.net.specs.declared.Counts.{Counts}
-use Rattle.net.specs.Promises.{reply_delay}
-use Rattle.output.specs.Printed.{index_text, place_line, kind_lines, refused_line, Holds}
-use Rattle.output.specs.Lines.{bounds_text, field, kind_lines_in, place_lines_in, answer_text_in}
+use Rattle.net.specs.Promises.{value_of, reply_delay}
+use Rattle.output.specs.Printed.{Figures, index_text, place_line, kind_lines, refused_line, answer_with, Holds}
 
 -- the parts of a place's line
-module _ (kind : List ℕ) (number lower upper : ℕ) where
-  pub bounds-parts : kind ++ ((spelling number ++ ascii " ") ++ ((spelling lower ++ ascii " ") ++ (spelling upper ++ ascii " "))) ≡ bounds_text kind number lower upper
-  bounds-parts = simp append_assoc
-
-  pub line-parts : (known : Bool) (lean wide : ℕ) → bounds_text kind number lower upper ++ ((index_text known lean ++ ascii " ") ++ (index_text known wide ++ ascii "\n")) ≡ place_line known kind number lower upper lean wide
-  unfolding place_line
-  line-parts known lean wide = simp append_assoc
+pub line-parts : (kind : List ℕ) (number lower upper : ℕ) (lean wide : Option ℕ)
+    → kind ++ ((spelling number ++ ascii " ") ++ ((spelling lower ++ ascii " ") ++ ((spelling upper ++ ascii " ") ++ ((index_text lean ++ ascii " ") ++ (index_text wide ++ ascii "\n")))))
+    ≡ place_line kind number lower upper lean wide
+unfolding place_line
+line-parts kind number lower upper lean wide = simp append_assoc
 
 -- the parts of a refusal's line
-pub refused-parts : (number : ℕ) → refused_line number ≡ ascii "refused " ++ (spelling number ++ ascii "\n")
+pub refused-parts : (number : ℕ) → ascii "refused " ++ (spelling number ++ ascii "\n") ≡ refused_line number
 unfolding refused_line
-refused-parts number = append_assoc (ascii "refused ") (spelling number) (ascii "\n")
+refused-parts number = simp append_assoc
 
 -- the parts of an answer's text
-pub answer-parts : (reply : List ℕ) (c : Counts) → ascii "answer 0\ndelay " ++ ((spelling (reply_delay reply) ++ ascii "\n") ++ place_lines_in reply true c) ≡ answer_text_in reply c
-answer-parts reply c = simp append_assoc
+pub answer-parts : (least : ℕ) (lines : List ℕ) → ascii "answer 0\ndelay " ++ ((spelling least ++ ascii "\n") ++ lines) ≡ answer_with least lines
+answer-parts least lines = simp append_assoc
 
--- Lines one after the other, those from i on of n.
-abbrev pub lines_from : (ℕ → List ℕ) → ℕ → ℕ → List ℕ
-lines_from line n i = flat_map line (from i (n - i))
+-- one more line behind those of n places
+lines_more : (line : ℕ → List ℕ) (k n : ℕ) → flat_map line (from k (suc n)) ≡ flat_map line (from k n) ++ line (k + n)
+unfolding flat_map from
+lines_more line k zero = rw (append-nil, add-zero)
+lines_more line k (suc n) =
+    let e : suc k + n ≡ k + suc n = omega arith in
+    rw (lines_more line (suc k) n, append_assoc, e)
 
-module _ (line : ℕ → List ℕ) (n : ℕ) where
-  lines_start : flat_map line (from 0 n) ≡ lines_from line n 0
-  lines_start = rw (sub-zero n)
+module _ (f : Figures) (kind : List ℕ) (p : ℕ) where
+  pub kind_lines-none : kind_lines f kind p 0 ≡ []
+  unfolding kind_lines flat_map from
+  kind_lines-none = refl
 
-  lines_step : (i : ℕ) → i < n → lines_from line n i ≡ line i ++ lines_from line n (i + 1)
-  unfolding flat_map from
-  lines_step i h =
-      let more : n - i ≡ suc (n - suc i) = omega arith in
-      rw (add-one i, more)
+  pub kind_lines_more : (n : ℕ) → kind_lines f kind p (n + 1) ≡ kind_lines f kind p n ++ place_line kind n (f.lower (p + n)) (f.upper (p + n)) (f.lean (p + n)) (f.wide (p + n))
+  unfolding kind_lines
+  kind_lines_more n =
+      let e : 0 + n ≡ n = omega arith in
+      rw add-one (rw e at (lines_more (λ i. place_line kind i (f.lower (p + i)) (f.upper (p + i)) (f.lean (p + i)) (f.wide (p + i))) 0 n))
 
-  lines_end : (i : ℕ) → n ≤ i → lines_from line n i ≡ []
-  unfolding flat_map from
-  lines_end i h =
-      let none : n - i ≡ 0 = omega arith in
-      rw none
+-- Eight bytes, the lowest first, as one number.
+value-step : (l : List ℕ) (k n : ℕ) → k < length l → value_of (take (suc n) (drop k l)) ≡ get_or l k 0 + 256 * value_of (take n (drop (suc k) l))
+unfolding value_of
+value-step l k n h = rw (drop-cons l k 0 h)
 
--- The lines of n places of one kind from place p on, by the bytes of a reply: what is left to put from place p + i on.
-module _ (reply : List ℕ) (known : Bool) (kind : List ℕ) (p n : ℕ) where
-  abbrev pub line_in : ℕ → List ℕ
-  line_in i = place_line known kind i (field reply 0 (p + i)) (field reply 1 (p + i)) (field reply 2 (p + i)) (field reply 3 (p + i))
-
-  -- the same line, with the bytes as the code reads them
-  abbrev pub line_read : ℕ → List ℕ
-  line_read i =
-      place_line known kind i (get_or reply (8 * (1 + (p + i))) 0) (get_or reply (8 * (1 + (p + i)) + 1) 0) (get_or reply (8 * (1 + (p + i)) + 2) 0) (get_or reply (8 * (1 + (p + i)) + 3) 0)
-
-  line_read_lem : (i : ℕ) → line_read i ≡ line_in i
-  line_read_lem i =
-      let e : 8 * suc (p + i) ≡ 8 * (1 + (p + i)) = omega arith in
-      let z : 8 * (1 + (p + i)) + 0 ≡ 8 * (1 + (p + i)) = omega arith in
-      rw (e, z)
-
-  -- out has all lines up to place p + i, and next is the position behind them.
-  pub record Lined (out₀ : List ℕ) (at : ℕ) (out : List ℕ) (next i : ℕ) : Type 0 where
-    pub up_to : i ≤ n
-    pub near : next ≤ at + 114 * i
-    pub left : Left out₀ at (kind_lines_in reply known kind p n) out next (lines_from line_in n i)
-
-  module _ (out₀ : List ℕ) (at : ℕ) where
-    pub lined-start : Lined out₀ at out₀ at 0
-    unfolding kind_lines
-    lined-start = record { up_to = omega arith; near = omega arith; left = rw (← lines_start line_in n) (left-start out₀ at _) }
-
-    module _ (out : List ℕ) (next i : ℕ) (l : Lined out₀ at out next i) where
-      pub lined-step : (out' : List ℕ) (next' : ℕ) → i < n → Wrote out next (line_read i) out' next' → next' ≤ next + 114 → Lined out₀ at out' next' (i + 1)
-      lined-step out' next' h w k =
-          record {
-            up_to = omega arith;
-            near = omega (arith, l.near);
-            left = left_step (line_in i) (lines_from line_in n (i + 1)) (rw (lines_step line_in n i h) at l.left) (rw (← line_read_lem i) w);
-          }
-
-      pub lined-end : n ≤ i → Wrote out₀ at (kind_lines_in reply known kind p n) out next
-      lined-end h = left_end (rw (lines_end line_in n i h) at l.left)
+pub delay-bytes : (l : List ℕ) → 8 ≤ length l
+    → reply_delay l ≡ get_or l 0 0 + 256 * get_or l 1 0 + 65536 * get_or l 2 0 + 16777216 * get_or l 3 0 + 4294967296 * (get_or l 4 0 + 256 * get_or l 5 0 + 65536 * get_or l 6 0 + 16777216 * get_or l 7 0)
+unfolding value_of
+delay-bytes l h =
+    let e = value-step l 0 7 (omega arith) in
+    let f = value-step l 1 6 (omega arith) in
+    let g = value-step l 2 5 (omega arith) in
+    let i = value-step l 3 4 (omega arith) in
+    let j = value-step l 4 3 (omega arith) in
+    let k = value-step l 5 2 (omega arith) in
+    let m = value-step l 6 1 (omega arith) in
+    let n = value-step l 7 0 (omega arith) in
+    omega (arith, e, f, g, i, j, k, m, n)
 
 -- A text put at the start of a buffer that reaches behind it.
 pub wrote-holds : {before text after : List ℕ} {n : ℕ} → Wrote before 0 text after n → n ≤ length before → Holds text before after n

@@ -1,8 +1,9 @@
 -- What the programs write for the worked jobs is what the definitions give, by computation: first the figures, then the texts.
 use mathlib.Core.Path.{◌≡◌, refl}
-use mathlib.Core.Bool.{true, false}
+use mathlib.Core.Bool.{false}
 use mathlib.Core.List.{List, [], ◌∷◌, ◌++◌, map, flat_map}
 use Prim.Native.Nat.{ℕ}
+use Rattle.std.specs.Prelude.{Some}
 use lib.Dec.{ltb}
 use lib.ListN.{length}
 use Rattle.text.specs.Spelling.{ascii, digits, spelling}
@@ -40,7 +41,7 @@ of-J2 = record { number = refl; least = refl; lower = refl; upper = refl; lean =
 
 -- The text of an answered job, from its figures.
 shown : (job : List ℕ) (d : ℕ) (lo hi l w : List ℕ) → Answered job d lo hi l w → ltb 65536 (length job) ≡ false
-    → printed job ≡ ascii "answer 0\ndelay " ++ spelling d ++ ascii "\n" ++ place_lines true record { lower = at lo; upper = at hi; lean = at l; wide = at w } (counts_of job).stages (counts_of job).segments (counts_of job).repeaters
+    → printed job ≡ ascii "answer 0\ndelay " ++ spelling d ++ ascii "\n" ++ place_lines record { lower = at lo; upper = at hi; lean = λ p. Some (at l p); wide = λ p. Some (at w p) } (counts_of job).stages (counts_of job).segments (counts_of job).repeaters
 unfolding printed job_text answer_text net_lines
 shown job d lo hi l w a e = rw (e, a.number, a.least, a.lower, a.upper, a.lean, a.wide)
 

@@ -1,31 +1,31 @@
 -- The bytes of a reply as the lines' figures: cited by the contracts of inner functions, and no reader need believe this file.
-use Rattle.std.specs.Prelude.{Bool, true, List, ◌++◌, ℕ, suc, ◌+◌, ◌*◌}
+use Rattle.std.specs.Prelude.{◌≡◌, Bool, List, ℕ, suc, ◌+◌, ◌*◌}
 use Rattle.lattice.specs.Lists.{at}
-use Rattle.text.specs.Spelling.{ascii, spelling}
 use Rattle.net.specs.declared.Counts.{Counts}
-use Rattle.net.specs.Promises.{reply_delay}
-use Rattle.output.specs.Printed.{Figures, kind_lines, place_lines, answer_with}
-
--- The start of a place's line: its kind, number and bounds.
-abbrev pub bounds_text : List ℕ → (number lower upper : ℕ) → List ℕ
-bounds_text kind number lower upper =
-    kind ++ spelling number ++ ascii " " ++ spelling lower ++ ascii " " ++ spelling upper ++ ascii " "
+use Rattle.output.specs.Printed.{Figures, if_known, place_lines}
+use Rattle.output.specs.declared.PlaceFigures.{PlaceFigures}
 
 -- Byte j of a place's record in a reply.
 abbrev pub field : List ℕ → ℕ → ℕ → ℕ
 field reply j p = at reply (8 * suc p + j)
 
--- The figures in the records of a reply.
-abbrev pub figures_in : List ℕ → Figures
-figures_in reply = record { lower = field reply 0; upper = field reply 1; lean = field reply 2; wide = field reply 3 }
+-- The figures in the records of a reply; lean and wide where it is finished.
+abbrev pub figures_in : Bool → List ℕ → Figures
+figures_in finished reply =
+    record {
+      lower = field reply 0;
+      upper = field reply 1;
+      lean = λ p. if_known finished (field reply 2 p);
+      wide = λ p. if_known finished (field reply 3 p);
+    }
 
--- The lines of n places of one kind from place p on, and of all places, by the bytes of a reply.
-abbrev pub kind_lines_in : List ℕ → Bool → List ℕ → ℕ → ℕ → List ℕ
-kind_lines_in reply known kind p n = kind_lines known (figures_in reply) kind p n
+-- The figures of one place.
+pub record HasFigures (f : Figures) (p : ℕ) (figures : PlaceFigures) : Type 0 where
+  pub lower : figures.lower ≡ f.lower p
+  pub upper : figures.upper ≡ f.upper p
+  pub lean : figures.lean ≡ f.lean p
+  pub wide : figures.wide ≡ f.wide p
 
-abbrev pub place_lines_in : List ℕ → Bool → Counts → List ℕ
-place_lines_in reply known c = place_lines known (figures_in reply) c.stages c.segments c.repeaters
-
--- The lines of an answer by the bytes of a reply.
-abbrev pub answer_text_in : List ℕ → Counts → List ℕ
-answer_text_in reply c = answer_with (reply_delay reply) (place_lines_in reply true c)
+-- The lines of all places, by the bytes of a reply.
+abbrev pub lines_in : Bool → List ℕ → Counts → List ℕ
+lines_in finished reply c = place_lines (figures_in finished reply) c.stages c.segments c.repeaters

@@ -1,5 +1,5 @@
 -- What the programs write, for every input: the section 'Programs' of the specification.
-use Rattle.std.specs.Prelude.{◌≡◌, Bool, true, false, cond, ℕ, ◌+◌, ◌≤◌, ltb, eqb, length, drop}
+use Rattle.std.specs.Prelude.{◌≡◌, Bool, true, false, cond, Option, Some, None, ℕ, ◌+◌, ◌≤◌, ltb, eqb, length, drop}
 use mathlib.Core.List.{List, [], ◌++◌, flat_map}
 use Rattle.text.specs.Spelling.{ascii, spelling}
 use Rattle.lattice.specs.Lists.{at, from}
@@ -8,44 +8,55 @@ use Rattle.net.specs.Sizings.{least_delay, lean, wide, lower_bound, upper_bound}
 use Rattle.net.specs.Answers.{reply_length, size_number, finished_reply, bounds_reply}
 
 -- Lean or wide at a place: its index where it is known, `-` otherwise.
-unfoldable pub index_text : Bool → ℕ → List ℕ
-index_text known k = cond known (spelling k) (ascii "-")
+unfoldable pub index_text : Option ℕ → List ℕ
+index_text None = ascii "-"
+index_text (Some k) = spelling k
 
 -- The line of a place: its kind, number, lower, upper, lean, wide.
-unfoldable pub place_line : Bool → List ℕ → (number lower upper lean wide : ℕ) → List ℕ
-place_line known kind number lower upper lean wide =
+unfoldable pub place_line : List ℕ → (number lower upper : ℕ) → (lean wide : Option ℕ) → List ℕ
+place_line kind number lower upper lean wide =
     kind ++ spelling number
     ++ ascii " " ++ spelling lower
     ++ ascii " " ++ spelling upper
-    ++ ascii " " ++ index_text known lean
-    ++ ascii " " ++ index_text known wide
+    ++ ascii " " ++ index_text lean
+    ++ ascii " " ++ index_text wide
     ++ ascii "\n"
 
--- The figures of the places, each by place.
+-- The figures of the places, each by place; lean and wide where they are known.
 pub record Figures : Type 0 where
   pub lower : ℕ → ℕ
   pub upper : ℕ → ℕ
-  pub lean : ℕ → ℕ
-  pub wide : ℕ → ℕ
+  pub lean : ℕ → Option ℕ
+  pub wide : ℕ → Option ℕ
 
 -- The lines of n places of one kind, numbered from 0, of which the first is place p.
-unfoldable pub kind_lines : Bool → Figures → List ℕ → (p n : ℕ) → List ℕ
-kind_lines known f kind p n =
-    flat_map (λ i. place_line known kind i (f.lower (p + i)) (f.upper (p + i)) (f.lean (p + i)) (f.wide (p + i))) (from 0 n)
+unfoldable pub kind_lines : Figures → List ℕ → (p n : ℕ) → List ℕ
+kind_lines f kind p n =
+    flat_map (λ i. place_line kind i (f.lower (p + i)) (f.upper (p + i)) (f.lean (p + i)) (f.wide (p + i))) (from 0 n)
 
 -- The lines of all places: stages first, then segments, then repeaters.
-unfoldable pub place_lines : Bool → Figures → (stages segments repeaters : ℕ) → List ℕ
-place_lines known f stages segments repeaters =
-    kind_lines known f (ascii "stage ") 0 stages
-    ++ kind_lines known f (ascii "segment ") stages segments
-    ++ kind_lines known f (ascii "repeater ") (stages + segments) repeaters
+unfoldable pub place_lines : Figures → (stages segments repeaters : ℕ) → List ℕ
+place_lines f stages segments repeaters =
+    kind_lines f (ascii "stage ") 0 stages
+    ++ kind_lines f (ascii "segment ") stages segments
+    ++ kind_lines f (ascii "repeater ") (stages + segments) repeaters
+
+-- An index, where it is known.
+abbrev pub if_known : Bool → ℕ → Option ℕ
+if_known known k = cond known (Some k) None
 
 -- The figures of a net's places, and their lines, with lean and wide where they are known.
-abbrev pub net_figures : Net → Figures
-net_figures net = record { lower = at (lower_bound net); upper = at (upper_bound net); lean = at (lean net); wide = at (wide net) }
+abbrev pub net_figures : Bool → Net → Figures
+net_figures known net =
+    record {
+      lower = at (lower_bound net);
+      upper = at (upper_bound net);
+      lean = λ p. if_known known (at (lean net) p);
+      wide = λ p. if_known known (at (wide net) p);
+    }
 
 unfoldable pub net_lines : Bool → Net → List ℕ
-net_lines known net = place_lines known (net_figures net) net.stages net.segments net.repeaters
+net_lines known net = place_lines (net_figures known net) net.stages net.segments net.repeaters
 
 -- The line of a refusal.
 unfoldable pub refused_line : ℕ → List ℕ

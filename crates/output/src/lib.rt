@@ -3,15 +3,19 @@
 
 ghost use Rattle.std.specs.Prelude.{◌≡◌, ◌++◌, suc, ◌+◌, ◌*◌, ◌≤◌, ◌<◌, ◌^◌, length};
 ghost use Rattle.io.specs.Counts.{IsPrefixLen as Within};
-ghost use Rattle.text.specs.Writing.{Wrote};
+ghost use Rattle.text.specs.Writing.{Puts};
 ghost use Rattle.net.specs.Job.{places_by};
 ghost use Rattle.net.specs.Promises.{reply_delay};
-ghost use Rattle.output.specs.Printed.{index_text, place_line, refused_line, printed, replied, told, Holds};
-ghost use Rattle.output.specs.Lines.{bounds_text, kind_lines_in, place_lines_in, answer_text_in};
+ghost use Rattle.output.specs.Printed.{answer_with, index_text, place_line, kind_lines, refused_line, printed, replied, told, Holds};
+ghost use Rattle.output.specs.Lines.{figures_in, HasFigures, lines_in};
 
 use net::Counts;
 use quantity::Delay;
-use text::widened;
+use size::Reply;
+use text::Text;
+
+// The programs take no longer input.
+const MOST: usize = 65536;
 
 // How many bytes a reply and the line beside it have.
 #[derive(Clone, Copy)]
@@ -20,141 +24,151 @@ pub struct Lengths {
     pub line: usize,
 }
 
-// Puts lean or wide at a place and a word behind it: the index where it is known, `-` otherwise.
-fn put_index_then(out: &mut [u8], at: usize, index: u8, known: bool, word: &[u8]) -> usize
-    requires { (at < 2 ^ 40) × (length word.now ≤ 1) }
-    ensures wrote { Wrote out.old at (index_text known index ++ word.now) out.new result }
-    ensures upper_bound { result ≤ at + 21 }
-{
-    if known {
-        return text::put_number_then(out, at, widened(index), word);
-    }
-    let next = text::put_byte(out, at, b'-');
-    text::put_bytes(out, next, word)
+// What a line tells of a place: its bounds, and lean and wide where they are known.
+#[derive(Clone, Copy)]
+struct PlaceFigures {
+    lower: u8,
+    upper: u8,
+    lean: Option<u8>,
+    wide: Option<u8>,
 }
 
-// Puts the start of a place's line: its kind, number and bounds.
-fn put_bounds(out: &mut [u8], at: usize, kind: &[u8], number: u64, lower: u8, upper: u8) -> usize
-    requires { (at < 2 ^ 32) × (length kind.now ≤ 9) }
-    ensures wrote { Wrote out.old at (bounds_text kind.now number lower upper) out.new result }
-    ensures upper_bound { result ≤ at + 72 }
+// The places' records in a reply. Only a finished one has lean and wide.
+#[derive(Clone, Copy)]
+struct Places<'a> {
+    reply: &'a [u8; 616],
+    counts: Counts,
+    finished: bool,
+    ghost few: { places_by counts ≤ 76 },
+}
+
+// Puts lean or wide at a place and a word behind it: the index where it is known, `-` otherwise.
+fn put_index_then(text: &mut Text<'_>, index: Option<u8>, word: &[u8])
+    requires { (text.old.at < 2 ^ 40) × (length word.now ≤ 1) }
+    ensures puts { Puts text.old (index_text index ++ word.now) text.new }
+    ensures upper_bound { text.new.at ≤ text.old.at + 21 }
 {
-    let named = text::put_bytes(out, at, kind);
-    let numbered = text::put_number_then(out, named, number, b" ");
-    let next = text::put_number_then(out, numbered, widened(lower), b" ");
-    text::put_number_then(out, next, widened(upper), b" ")
+    match index {
+        Some(known) => text.put_number(u64::from(known)),
+        None => text.put_byte(b'-'),
+    }
+    text.put_bytes(word);
 }
 
 // Puts the line of a place.
-fn put_place(
-    out: &mut [u8],
-    at: usize,
-    known: bool,
-    kind: &[u8],
-    number: u64,
-    lower: u8,
-    upper: u8,
-    lean: u8,
-    wide: u8,
-) -> usize
-    requires { (at < 2 ^ 32) × (length kind.now ≤ 9) }
-    ensures wrote { Wrote out.old at (place_line known kind.now number lower upper lean wide) out.new result }
-    ensures upper_bound { result ≤ at + 114 }
+fn put_line(text: &mut Text<'_>, kind: &[u8], number: usize, figures: PlaceFigures)
+    requires { (text.old.at < 2 ^ 32) × (length kind.now ≤ 9) }
+    ensures puts { Puts text.old (place_line kind.now number figures.lower figures.upper figures.lean figures.wide) text.new }
+    ensures upper_bound { text.new.at ≤ text.old.at + 114 }
 {
-    let bounded = put_bounds(out, at, kind, number, lower, upper);
-    let next = put_index_then(out, bounded, lean, known, b" ");
-    put_index_then(out, next, wide, known, b"\n")
-}
-
-// Puts the lines of n places of one kind, the first of which is place p, by the bytes of a reply.
-fn put_kind(
-    out: &mut [u8],
-    at: usize,
-    reply: &[u8; 616],
-    known: bool,
-    kind: &[u8],
-    p: usize,
-    n: usize,
-) -> usize
-    requires { (at < 2 ^ 31) × (length kind.now ≤ 9) × (p + n ≤ 76) }
-    ensures wrote { Wrote out.old at (kind_lines_in reply.now known kind.now p n) out.new result }
-    ensures upper_bound { result ≤ at + 114 * n }
-{
-    let mut next = at;
-    let mut i = 0;
-    while i < n {
-        let place = p + i;
-        let record = 8 * (1 + place);
-        next = put_place(
-            out,
-            next,
-            known,
-            kind,
-            i as u64,
-            reply[record],
-            reply[record + 1],
-            reply[record + 2],
-            reply[record + 3],
-        );
-        i += 1;
-    }
-    next
-}
-
-// Puts the lines of all places.
-fn put_places(out: &mut [u8], at: usize, reply: &[u8; 616], known: bool, counts: Counts) -> usize
-    requires { (at < 2 ^ 30) × (places_by counts ≤ 76) }
-    ensures wrote { Wrote out.old at (place_lines_in reply.now known counts) out.new result }
-    ensures upper_bound { result ≤ at + 8664 }
-{
-    let next = put_kind(out, at, reply, known, b"stage ", 0, counts.stages);
-    let after = put_kind(
-        out,
-        next,
-        reply,
-        known,
-        b"segment ",
-        counts.stages,
-        counts.segments,
-    );
-    put_kind(
-        out,
-        after,
-        reply,
-        known,
-        b"repeater ",
-        counts.stages + counts.segments,
-        counts.repeaters,
-    )
+    text.put_bytes(kind);
+    text.put_number_then(number as u64, b" ");
+    text.put_number_then(u64::from(figures.lower), b" ");
+    text.put_number_then(u64::from(figures.upper), b" ");
+    put_index_then(text, figures.lean, b" ");
+    put_index_then(text, figures.wide, b"\n");
 }
 
 // The delay in the first record of a reply, the lowest byte first.
 fn delay(reply: &[u8; 616]) -> Delay
     ensures { result.0 ≡ reply_delay reply.now }
 {
-    let number = job::word_at(reply, 0) + 4294967296 * job::word_at(reply, 4);
-    Delay(number)
+    let [a, b, c, d, e, f, g, h, ..] = *reply;
+    Delay(u64::from_le_bytes([a, b, c, d, e, f, g, h]))
 }
 
-// Puts the lines of an answer, by the bytes of a finished reply.
-fn put_answer(out: &mut [u8], reply: &[u8; 616], counts: Counts) -> usize
-    requires { places_by counts ≤ 76 }
-    ensures wrote { Wrote out.old 0 (answer_text_in reply.now counts) out.new result }
-    ensures upper_bound { result ≤ 8700 }
-{
-    let start = text::put_bytes(out, 0, b"answer 0\ndelay ");
-    let least = delay(reply);
-    let next = text::put_number_then(out, start, least.0, b"\n");
-    put_places(out, next, reply, true, counts)
+impl Places<'_> {
+    // The figures of place p.
+    fn figures(&self, p: usize) -> PlaceFigures
+        requires { p < 76 }
+        ensures { HasFigures (figures_in self.now.finished self.now.reply.now) p result }
+    {
+        let record = 8 * (1 + p);
+        PlaceFigures {
+            lower: self.reply[record],
+            upper: self.reply[record + 1],
+            lean: self.finished.then_some(self.reply[record + 2]),
+            wide: self.finished.then_some(self.reply[record + 3]),
+        }
+    }
+
+    // Puts the lines of `count` places of one kind, the first of which is place `first`.
+    fn put_kind(&self, text: &mut Text<'_>, kind: &[u8], first: usize, count: usize)
+        requires { (text.old.at < 2 ^ 31) × (length kind.now ≤ 9) × (first + count ≤ 76) }
+        ensures puts { Puts text.old (kind_lines (figures_in self.now.finished self.now.reply.now) kind.now first count) text.new }
+        ensures upper_bound { text.new.at ≤ text.old.at + 114 * count }
+    {
+        for i in 0..count {
+            put_line(text, kind, i, self.figures(first + i));
+        }
+    }
+
+    // Puts the lines of all places.
+    fn put_lines(&self, text: &mut Text<'_>)
+        requires { text.old.at < 2 ^ 30 }
+        ensures puts { Puts text.old (lines_in self.now.finished self.now.reply.now self.now.counts) text.new }
+        ensures upper_bound { text.new.at ≤ text.old.at + 8664 }
+    {
+        let stages = self.counts.stages;
+        let segments = self.counts.segments;
+        self.put_kind(text, b"stage ", 0, stages);
+        self.put_kind(text, b"segment ", stages, segments);
+        self.put_kind(text, b"repeater ", stages + segments, self.counts.repeaters);
+    }
+
+    // Puts the lines of an answer.
+    fn put_answer(&self, text: &mut Text<'_>)
+        requires { text.old.at < 2 ^ 29 }
+        ensures puts { Puts text.old (answer_with (reply_delay self.now.reply.now) (lines_in self.now.finished self.now.reply.now self.now.counts)) text.new }
+        ensures upper_bound { text.new.at ≤ text.old.at + 8700 }
+    {
+        text.put_bytes(b"answer 0\ndelay ");
+        text.put_number_then(delay(self.reply).0, b"\n");
+        self.put_lines(text);
+    }
 }
 
 // Puts the line of a refusal.
-fn put_refusal(out: &mut [u8], number: usize) -> usize
-    ensures wrote { Wrote out.old 0 (refused_line number) out.new result }
-    ensures upper_bound { result ≤ 29 }
+fn put_refusal(text: &mut Text<'_>, number: usize)
+    requires { text.old.at < 2 ^ 29 }
+    ensures puts { Puts text.old (refused_line number) text.new }
+    ensures upper_bound { text.new.at ≤ text.old.at + 29 }
 {
-    let next = text::put_bytes(out, 0, b"refused ");
-    text::put_number_then(out, next, number as u64, b"\n")
+    text.put_bytes(b"refused ");
+    text.put_number_then(number as u64, b"\n");
+}
+
+// Puts what the sizing program prints for an input.
+fn put_printed(text: &mut Text<'_>, input: &[u8])
+    requires { text.old.at < 2 ^ 29 }
+    ensures puts { Puts text.old (printed input.now) text.new }
+    ensures upper_bound { text.new.at ≤ text.old.at + 8700 }
+{
+    if input.len() > MOST {
+        text.put_bytes(b"too long\n");
+        return;
+    }
+    let mut reply = [0u8; 616];
+    match size::size(input, &mut reply) {
+        Ok(Reply::Finished(counts)) => {
+            let places = Places {
+                reply: &reply,
+                counts,
+                finished: true,
+            };
+            places.put_answer(text);
+        }
+        Ok(Reply::BoundsOnly(counts)) => {
+            let places = Places {
+                reply: &reply,
+                counts,
+                finished: false,
+            };
+            put_refusal(text, Reply::BoundsOnly(counts).number());
+            places.put_lines(text);
+        }
+        Err(unwritten) => put_refusal(text, unwritten.number()),
+    }
 }
 
 // Puts what the sizing program prints for an input, and answers its length.
@@ -162,20 +176,9 @@ pub fn print(input: &[u8], out: &mut [u8; 9216]) -> usize
     ensures text { Holds (printed input.now) out.old out.new result }
     ensures within { Within result out.new }
 {
-    if 65536 < input.len() {
-        return text::put_bytes(out, 0, b"too long\n");
-    }
-    let mut reply = [0u8; 616];
-    let sized = size::size_and_counts(input, &mut reply);
-    let counts = sized.counts;
-    if sized.number == 0 {
-        return put_answer(out, &reply, counts);
-    }
-    let next = put_refusal(out, sized.number);
-    if sized.number == 14 {
-        return put_places(out, next, &reply, false, counts);
-    }
-    next
+    let mut text = Text { out, at: 0 };
+    put_printed(&mut text, input);
+    text.at
 }
 
 // How many bytes the reply of a job has.
@@ -192,29 +195,32 @@ pub fn reply(input: &[u8], out: &mut [u8; 616], line: &mut [u8; 32]) -> Lengths
     ensures line { Holds (told input.now) line.old line.new result.line }
     ensures within { Within result.reply out.new × Within result.line line.new }
 {
-    if 65536 < input.len() {
+    let mut told = Text { out: line, at: 0 };
+    if input.len() > MOST {
+        told.put_bytes(b"too long\n");
         return Lengths {
             reply: 0,
-            line: text::put_bytes(line, 0, b"too long\n"),
+            line: told.at,
         };
     }
-    let sized = size::size_and_counts(input, out);
-    let counts = sized.counts;
-    if sized.number == 0 {
-        return Lengths {
+    match size::size(input, out) {
+        Ok(Reply::Finished(counts)) => Lengths {
             reply: reply_length(counts),
             line: 0,
-        };
-    }
-    let told = put_refusal(line, sized.number);
-    if sized.number == 14 {
-        return Lengths {
-            reply: reply_length(counts),
-            line: told,
-        };
-    }
-    Lengths {
-        reply: 0,
-        line: told,
+        },
+        Ok(Reply::BoundsOnly(counts)) => {
+            put_refusal(&mut told, Reply::BoundsOnly(counts).number());
+            Lengths {
+                reply: reply_length(counts),
+                line: told.at,
+            }
+        }
+        Err(unwritten) => {
+            put_refusal(&mut told, unwritten.number());
+            Lengths {
+                reply: 0,
+                line: told.at,
+            }
+        }
     }
 }

@@ -2,25 +2,39 @@
 // A frame is a byte for the operation, then its arguments: a slice as a length of two bytes, the lowest first, and its bytes; a place as one byte.
 #![tactic(auto)]
 
-ghost use Rattle.std.specs.Prelude.{◌≡◌, ◌<◌, ◌≤◌, IfOk, length};
+ghost use Rattle.std.specs.Prelude.{◌≡◌, ◌≤◌, IfOk, length};
 
-use operations::{Measurement, Refinement};
 use std::io;
 use std::io::{Read, Write};
 
-fn say<W: Write>(out: &mut W, text: &[u8]) -> io::Result<()> {
-    out.write_all(text)
+// What a frame asks for.
+#[derive(Clone, Copy)]
+enum Operation {
+    Measure,
+    Refine,
+    Choose,
+    Size,
 }
 
-fn number<W: Write>(out: &mut W, n: u64) -> io::Result<()> {
-    write!(out, " {n}")
+impl Operation {
+    // The operation that a frame's first byte names; none is named by 0, as which the input reads past its end.
+    fn named(byte: u8) -> Option<Operation> {
+        match byte {
+            0 => None,
+            1 => Some(Operation::Measure),
+            2 => Some(Operation::Refine),
+            3 => Some(Operation::Choose),
+            _ => Some(Operation::Size),
+        }
+    }
 }
 
-// A byte as a number.
-fn value(x: u8) -> usize
-    ensures { result < 256 }
-{
-    x as usize
+// What the slices of a frame are read into.
+#[derive(Drop)]
+struct Buffers {
+    job: [u8; 2048],
+    second: [u8; 1024],
+    third: [u8; 1024],
 }
 
 // Reads until the buffer is full or the input ends.
@@ -48,8 +62,9 @@ fn read_slice<R: Read>(input: &mut R, buffer: &mut [u8]) -> io::Result<usize>
     ensures within { IfOk result (λ n. n ≤ length buffer.new) }
     ensures long { length buffer.new ≡ length buffer.old }
 {
-    let low = value(read_byte(input)?);
-    let n = low + 256 * value(read_byte(input)?);
+    let mut two = [0u8; 2];
+    read_full(input, &mut two)?;
+    let n = usize::from(u16::from_le_bytes(two));
     if buffer.len() < n {
         return Ok(0);
     }
@@ -57,125 +72,91 @@ fn read_slice<R: Read>(input: &mut R, buffer: &mut [u8]) -> io::Result<usize>
     Ok(n)
 }
 
-// One byte in two hexadecimal digits.
-fn hex_byte<W: Write>(out: &mut W, x: u8) -> io::Result<()> {
-    write!(out, "{x:02x}")
-}
-
-// Bytes in hexadecimal digits, after a blank; nothing where there are none.
-fn hex<W: Write>(out: &mut W, bytes: &[u8]) -> io::Result<()> {
-    if bytes.is_empty() {
-        return Ok(());
+// Bytes in hexadecimal digits, after a blank; nothing where there are none. The line ends behind them.
+fn end_in_hex<W: Write>(out: &mut W, bytes: &[u8]) -> io::Result<()> {
+    if !bytes.is_empty() {
+        out.write_all(b" ")?;
     }
-    say(out, b" ")?;
     for byte in bytes {
-        hex_byte(out, *byte)?;
+        write!(out, "{byte:02x}")?;
     }
-    Ok(())
+    out.write_all(b"\n")
 }
 
 fn measure_line<W: Write>(out: &mut W, job: &[u8], sizing: &[u8]) -> io::Result<()> {
-    say(out, b"measure")?;
     match operations::measure(job, sizing) {
-        Measurement::Figures(f) => {
-            let delay = f.delay;
-            let load = f.load;
-            number(out, 0)?;
-            number(out, delay.0)?;
-            number(out, load.0)?;
-        }
-        Measurement::Refused(n) => {
-            number(out, n as u64)?;
-            number(out, 0)?;
-            number(out, 0)?;
-        }
+        Ok(figures) => writeln!(out, "measure 0 {} {}", figures.delay.0, figures.load.0),
+        Err(refusal) => writeln!(out, "measure {} 0 0", refusal.number()),
     }
-    say(out, b"\n")
 }
 
 fn refine_line<W: Write>(out: &mut W, job: &[u8], sizing: &[u8], place: usize) -> io::Result<()> {
-    say(out, b"refine")?;
     match operations::refine(job, sizing, place) {
-        Refinement::Best(best) => {
-            let delay = best.delay;
-            number(out, 0)?;
-            number(out, best.lowest as u64)?;
-            number(out, best.highest as u64)?;
-            number(out, delay.0)?;
-        }
-        Refinement::Refused(n) => {
-            number(out, n as u64)?;
-            number(out, 0)?;
-            number(out, 0)?;
-            number(out, 0)?;
-        }
+        Ok(best) => writeln!(
+            out,
+            "refine 0 {} {} {}",
+            best.lowest, best.highest, best.delay.0
+        ),
+        Err(refusal) => writeln!(out, "refine {} 0 0 0", refusal.number()),
     }
-    say(out, b"\n")
 }
 
 fn choose_line<'a, W: Write>(out: &mut W, job: &[u8], x: &'a [u8], y: &'a [u8]) -> io::Result<()> {
-    say(out, b"choose")?;
     let chosen = operations::choose(job, x, y);
-    number(out, chosen.len() as u64)?;
-    hex(out, chosen)?;
-    say(out, b"\n")
+    write!(out, "choose {}", chosen.len())?;
+    end_in_hex(out, chosen)
 }
 
 fn size_line<W: Write>(out: &mut W, job: &[u8], buffer: &mut [u8]) -> io::Result<()> {
-    say(out, b"size")?;
-    let n = size::size(job, buffer);
-    number(out, n as u64)?;
-    hex(out, buffer)?;
-    say(out, b"\n")
+    let number = match size::size(job, buffer) {
+        Ok(reply) => reply.number(),
+        Err(unwritten) => unwritten.number(),
+    };
+    write!(out, "size {number}")?;
+    end_in_hex(out, buffer)
 }
 
 // One call: a job, a second slice, and what else the operation takes.
-fn call<'a, R: Read, W: Write>(
+fn call<R: Read, W: Write>(
     input: &mut R,
     out: &mut W,
-    operation: u8,
-    job: &mut [u8],
-    second: &'a mut [u8],
-    third: &'a mut [u8],
+    operation: Operation,
+    buffers: &mut Buffers,
 ) -> io::Result<()> {
+    let Buffers { job, second, third } = buffers;
     let n = read_slice(input, job)?;
     let m = read_slice(input, second)?;
-    if operation == 1 {
-        measure_line(out, &job[..n], &second[..m])
-    } else if operation == 2 {
-        let place = value(read_byte(input)?);
-        refine_line(out, &job[..n], &second[..m], place)
-    } else if operation == 3 {
-        let k = read_slice(input, third)?;
-        choose_line(out, &job[..n], &second[..m], &third[..k])
-    } else {
-        size_line(out, &job[..n], &mut second[..m])
+    let job = &job[..n];
+    match operation {
+        Operation::Measure => measure_line(out, job, &second[..m]),
+        Operation::Refine => {
+            let place = usize::from(read_byte(input)?);
+            refine_line(out, job, &second[..m], place)
+        }
+        Operation::Choose => {
+            let k = read_slice(input, third)?;
+            choose_line(out, job, &second[..m], &third[..k])
+        }
+        Operation::Size => size_line(out, job, &mut second[..m]),
     }
 }
 
-// Reads and answers calls up to the end of the input, where the operation reads as 0.
-fn calls<'a, R: Read, W: Write>(
-    input: &mut R,
-    out: &mut W,
-    job: &mut [u8],
-    second: &'a mut [u8],
-    third: &'a mut [u8],
-) -> io::Result<()> {
+// Reads and answers calls up to the end of the input.
+fn calls<R: Read, W: Write>(input: &mut R, out: &mut W, buffers: &mut Buffers) -> io::Result<()> {
     for _ in 0..10000u32 {
-        let operation = read_byte(input)?;
-        if operation == 0 {
-            return Ok(());
+        match Operation::named(read_byte(input)?) {
+            Some(operation) => call(input, out, operation, buffers)?,
+            None => return Ok(()),
         }
-        call(input, out, operation, job, second, third)?;
     }
     Ok(())
 }
 
 fn main(rt: HostRuntime) -> io::Result<()> {
-    let mut input = rt.stdin();
-    let mut out = rt.stdout();
-    let mut job = [0u8; 2048];
-    let mut second = [0u8; 1024];
-    let mut third = [0u8; 1024];
-    calls(&mut input, &mut out, &mut job, &mut second, &mut third)
+    let mut buffers = Buffers {
+        job: [0u8; 2048],
+        second: [0u8; 1024],
+        third: [0u8; 1024],
+    };
+    calls(&mut rt.stdin(), &mut rt.stdout(), &mut buffers)
 }

@@ -1,7 +1,10 @@
--- `output::delay` meets its contract: eight bytes as two words.
-use Rattle.output.proofs.Figures.{delay-words}
+-- `output::delay` meets its contract: eight bytes, the lowest first.
+use native.Mathlib.Omega.{arith}
 use borrow.Author.Rules.{rules}
+use Rattle.output.proofs.Lines.{delay-bytes}
 use Rattle.output.proofs.delay.Goals as goal
 
 pub returns : goal.returns
-returns c = rw (c.word_at.ensures.0, c.word_at-2.ensures.0) (delay-words c.args.reply.now (search rules))
+returns c =
+    let f = delay-bytes c.args.reply.now (search rules) in
+    omega (arith, f, c.from_le_bytes.ensures)

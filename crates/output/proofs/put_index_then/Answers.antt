@@ -1,17 +1,15 @@
 -- `output::put_index_then` meets its contract: the index or `-`, and the word behind it.
-use Rattle.text.proofs.Writing.{wrote_then}
+use Rattle.text.specs.Writing.{Puts}
+use Rattle.text.proofs.Writing.{puts_then}
 use Rattle.output.specs.Printed.{index_text}
-use native.Mathlib.Omega.{arith}
 use Rattle.output.proofs.put_index_then.Goals as goal
+use Rattle.output.proofs.put_index_then.Goals.{in-Some, in-None}
 
-pub returns-then-known : goal.returns-then-known
+pub returns-clause-puts : goal.returns-clause-puts
 unfolding index_text
-returns-then-known c =
-    let e = c.put_number_then.ensures in
-    record { wrote = rw (c.if-known.true, ← c.widened.ensures.0) e.wrote; upper_bound = omega (arith, e.upper_bound) }
-
-pub returns : goal.returns
-unfolding index_text
-returns c =
-    let e = c.put_bytes.ensures in
-    record { wrote = rw c.if-known.false (wrote_then c.put_byte-next.ensures e); upper_bound = omega (arith, e.position, c.put_byte-next.ensures.position) }
+returns-clause-puts c =
+    let p : Puts c.args.text.now (index_text c.args.index) c.match-index.text = elim c.match-index.branch [
+      | in-Some w ↦ rw (w.in-Some.is, w.text-is, ← w.from.ensures) w.put_number.ensures.puts
+      | in-None w ↦ rw (w.in-None.is, w.text-is) w.put_byte.ensures
+    ] in
+    puts_then p c.put_bytes.ensures
