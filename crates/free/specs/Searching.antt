@@ -117,6 +117,10 @@ module _ (c : Counts) (b : List ℕ) where
   abbrev pub PassedBy : (w u p l added least low top k : ℕ) → Type 0
   PassedBy w u p l added least low top k = PassedTo (placed_by c b) w u p l added least low top k
 
+  -- The index k is one up to `top` that gives a delay of at most `least`.
+  abbrev pub ReachedBy : (w u p l added least top k : ℕ) → Type 0
+  ReachedBy w u p l added least top k = (k ≤ top) × (added + cost (placed_by c b) w u p l k ≤ least)
+
   module _ (lower upper : List ℕ) where
     -- The node at which a load at `node` arrives, and that of each place.
     abbrev pub arrives_at : List ℕ → ℕ → ℕ

@@ -2,12 +2,12 @@
 // the sizings that differ at the last of them alone. Tables and sizings go by position.
 #![tactic(auto)]
 
-ghost use Rattle.std.specs.Prelude.{◌≡◌, ◌<◌, ◌≤◌};
+ghost use Rattle.std.specs.Prelude.{◌≡◌, ◌<◌, ◌≤◌, IfSome};
 ghost use Rattle.net.specs.Job.{places_by};
 ghost use Rattle.job.specs.Tables.{TableOf};
 ghost use Rattle.place.specs.ByCounts.{StepInLimits};
 ghost use Rattle.envelope.specs.Kept.{SameSpace};
-ghost use Rattle.free.specs.Searching.{AllFit, PassedBy, first_of};
+ghost use Rattle.free.specs.Searching.{AllFit, PassedBy, ReachedBy, first_of};
 ghost use Rattle.free.specs.ByTables.{IsAt, IsBefore, IsLast, PassedAt, SearchedFrom};
 
 mod prepared;
@@ -41,7 +41,8 @@ impl FreePlace {
         requires step_in_limits { StepInLimits job.now.counts job.now.bytes.now self.now.spot.weight self.now.spot.before.0 self.now.spot.place self.now.range.highest load.0 }
         requires low_le_top { (self.now.range.lowest ≤ self.now.range.highest) × (self.now.range.highest < 16) }
         requires all_fit { AllFit job.now.counts job.now.bytes.now self.now.spot.weight self.now.spot.before.0 self.now.spot.place load.0 added.0 self.now.range.lowest self.now.range.highest }
-        ensures { PassedBy job.now.counts job.now.bytes.now self.now.spot.weight self.now.spot.before.0 self.now.spot.place load.0 added.0 least.0 self.now.range.lowest self.now.range.highest (first_of self.now.range.highest result) }
+        ensures passed { PassedBy job.now.counts job.now.bytes.now self.now.spot.weight self.now.spot.before.0 self.now.spot.place load.0 added.0 least.0 self.now.range.lowest self.now.range.highest (first_of self.now.range.highest result) }
+        ensures reached { IfSome result (λ k. ReachedBy job.now.counts job.now.bytes.now self.now.spot.weight self.now.spot.before.0 self.now.spot.place load.0 added.0 least.0 self.now.range.highest k) }
     {
         for k in self.range.lowest..=self.range.highest {
             let step = self.spot.step(job, usize::from(k), load);

@@ -191,7 +191,7 @@ pub take_from-requires-clause-passed_at : goal.take_from-requires-clause-passed_
 take_from-requires-clause-passed_at t c =
     let b = (goal.at.take_from-requires-clause-passed_at t c).After-add in
     let g = c.free_place-then.ensures in
-    passed-by c.args.tables.now.prepared (before b) _ (loaded g (arrived b) (rest b) _ c.requires.more c.add-drives.ensures.0) _ (passed-at g c.add-drives.result.0 c.add-reached.result.0 c.loop-k.kept.least.0 _ c.in-Some.ensures)
+    passed-by c.args.tables.now.prepared (before b) _ (loaded g (arrived b) (rest b) _ c.requires.more c.add-drives.ensures.0) _ (passed-at g c.add-drives.result.0 c.add-reached.result.0 c.loop-k.kept.least.0 _ c.in-Some.ensures.passed)
 
 pub search-requires : goal.search-requires
 search-requires t c =
@@ -205,7 +205,7 @@ loop-k-preserved t c =
       | then-further-eq0+in-Some w ↦ rw (w.x-is, w.gathered-is, w.kept-is) (turned b _ _ _ w.take_from.ensures.same_space w.take_from.ensures.searched)
       | then-further-eq0+in_default w ↦
           let g = c.free_place-then.ensures in
-          let all = rw (first-none _ _ w.in_default.not-Some) at w.pass_over.ensures in
+          let all = rw (first-none _ _ w.in_default.not-Some) at w.pass_over.ensures.passed in
           let passed = passed-by c.args.tables.now.prepared (before b) _ (loaded g (arrived b) (rest b) _ c.requires.more w.add-drives.ensures.0) _ (passed-at g w.add-drives.result.0 c.add-reached.result.0 c.loop-k.kept.least.0 _ all) in
           rw (w.x-is, w.gathered-is, w.kept-is)
           (turned b _ _ _ (record { lean = refl; wide = refl; lean_long = refl; wide_long = refl })

@@ -1,6 +1,6 @@
 -- The loop has the indices passed.
 use mathlib.Core.Path.{◌≡◌}
-use Prim.Native.Nat.{suc, ◌+◌, ◌<◌}
+use Prim.Native.Nat.{suc, ◌+◌, ◌≤◌, ◌<◌}
 use native.Mathlib.Omega.{arith}
 use Rattle.std.proofs.lemmas.Bool.Decides.{nat_tests}
 use Rattle.free.proofs.Passing.{passing-start, passing_step}
@@ -19,8 +19,14 @@ add-requires c =
     let l = c.loop-k in
     omega (arith, c.step-step.ensures.delay, c.requires.all_fit c.from.result (omega (arith, l.invariant.from)) (omega arith))
 
-pub returns-then-le : goal.returns-then-le
-returns-then-le c = c.loop-k.invariant
+pub returns-then-le-clause-passed : goal.returns-then-le-clause-passed
+returns-then-le-clause-passed c = c.loop-k.invariant
+
+pub returns-then-le-clause-reached : goal.returns-then-le-clause-reached
+returns-then-le-clause-reached c =
+    let step = rw c.from.ensures at c.step-step.ensures in
+    let most : c.add.result.0 ≤ c.args.least.0 = grind (arith, nat_tests) in
+    (omega arith, omega (arith, step.delay))
 
 pub loop-k-preserved : goal.loop-k-preserved
 loop-k-preserved c =
@@ -29,16 +35,16 @@ loop-k-preserved c =
     let above : c.args.least.0 < c.add.result.0 = grind (arith, nat_tests) in
     passing_step l.invariant (omega arith) (omega (arith, step.delay))
 
-pub returns-else-le : goal.returns-else-le
-returns-else-le c =
+pub returns-else-le-clause-passed : goal.returns-else-le-clause-passed
+returns-else-le-clause-passed c =
     let l = c.loop-k in
     let step = rw c.from.ensures at c.step-step.ensures in
     let above : c.args.least.0 < c.add.result.0 = grind (arith, nat_tests) in
     let e : l.k + 1 ≡ suc c.args.self.now.range.highest = omega arith in
     rw e at (passing_step l.invariant (omega arith) (omega (arith, step.delay)))
 
-pub returns : goal.returns
-returns c =
+pub returns-clause-passed : goal.returns-clause-passed
+returns-clause-passed c =
     let l = c.loop-k in
     let e : l.k ≡ suc c.args.self.now.range.highest = omega arith in
     rw e at l.invariant
