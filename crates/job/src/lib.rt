@@ -176,8 +176,8 @@ impl Job<'_> {
     {
         let row = table.rows + k;
         Wire {
-            resistance: Resistance(self.row_word(row, 4)) * table.length,
-            capacitance: Capacitance(self.row_word(row, 8)) * table.length,
+            resistance: Resistance(self.row_word(row, 4)).along(table.length),
+            capacitance: Capacitance(self.row_word(row, 8)).along(table.length),
         }
     }
 

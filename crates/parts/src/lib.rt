@@ -65,7 +65,8 @@ fn segment_delay(wire: Wire, under: Capacitance) -> Delay
     requires { RoomCharged wire under.0 }
     ensures { result.0 ≡ lag wire under.0 }
 {
-    wire.resistance * wire.capacitance.charged_twice(under)
+    wire.resistance
+        .charging(wire.capacitance.charged_twice(under))
 }
 
 impl Segment {
@@ -79,7 +80,7 @@ impl Segment {
         Part {
             weight,
             load: self.wire.capacitance + under,
-            delay: weight * segment_delay(self.wire, under) + part.delay,
+            delay: segment_delay(self.wire, under).weighted(weight) + part.delay,
         }
     }
 }
@@ -124,7 +125,7 @@ pub fn repeated(net: &SizedJob<'_>, r: usize, part: Part) -> PartAndCharge
         part: Part {
             weight: part.weight,
             load: seen,
-            delay: 2 * part.weight * driven.delay + part.delay,
+            delay: driven.delay.weighted(2 * part.weight) + part.delay,
         },
         charge: driven.load,
     }
@@ -137,7 +138,7 @@ pub fn behind_stages(net: &SizedJob<'_>, source: Part) -> DelayAndLoad
 {
     let chain = stages::stages(net, source.load);
     DelayAndLoad {
-        delay: source.weight * (2 * chain.delay) + source.delay,
+        delay: chain.delay.weighted(2).weighted(source.weight) + source.delay,
         load: chain.load,
     }
 }

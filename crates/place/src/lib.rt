@@ -73,7 +73,10 @@ impl Spot {
         ensures { DriverStepped job.now.counts job.now.bytes.now self.now.weight self.now.before.0 k driven.0 result }
     {
         let charged = job.output(k) + driven;
-        let own = self.weight * (job.driver_resistance(k) * charged);
+        let own = job
+            .driver_resistance(k)
+            .charging(charged)
+            .weighted(self.weight);
         self.charged_before(own, job.gate(k))
     }
 
@@ -85,7 +88,7 @@ impl Spot {
     {
         let wire = job.wire(self.table, self.place - job.counts.stages, k);
         let charged = wire.capacitance.charged_twice(driven);
-        let own = self.weight * (wire.resistance * charged);
+        let own = wire.resistance.charging(charged).weighted(self.weight);
         self.charged_before(own, wire.capacitance + driven)
     }
 
@@ -95,7 +98,7 @@ impl Spot {
         ensures { Charged self.now.before.0 own.0 load.0 result }
     {
         PlaceStep {
-            delay: own + self.before * load,
+            delay: own + self.before.charging(load),
             load,
         }
     }
@@ -152,10 +155,10 @@ pub fn slope(job: &Job<'_>, weight: u64, p: usize, k: u8) -> Resistance
 {
     let index = usize::from(k);
     if job.is_driver(p) {
-        return weight * job.driver_resistance(index);
+        return job.driver_resistance(index).weighted(weight);
     }
     let wire = job.wire(job.table(p), p - job.counts.stages, index);
-    2 * weight * wire.resistance
+    wire.resistance.weighted(2 * weight)
 }
 
 // What the delay grows by with each unit of load behind position a.

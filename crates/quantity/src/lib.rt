@@ -1,10 +1,10 @@
-// Resistance, capacitance and scaled delay, kept apart: one struct each. Only the operators and functions here add or multiply them, and a sum or a
-// product that has no meaning has no operator.
+// Resistance, capacitance and scaled delay, kept apart: one struct each. Two of a kind are added by `+`, and products are made by the functions here
+// alone, each with a name of its own.
 #![tactic(auto)]
 
 ghost use Rattle.std.specs.Prelude.{◌≡◌, ◌+◌, ◌*◌, ◌^◌, ◌<◌, ◌≤◌};
 
-use std::ops::{Add, Mul};
+use std::ops::Add;
 
 #[derive(Clone, Copy, PartialEq, Eq, PartialOrd, Ord)]
 pub struct Resistance(pub u64);
@@ -55,71 +55,6 @@ impl Add for Delay {
     }
 }
 
-// The delay of a capacitance charged through a resistance.
-impl Mul<Capacitance> for Resistance {
-    type Output = Delay;
-
-    ghost can_mul = { λ r c. r.0 * c.0 < 2 ^ 63 };
-
-    ghost mul_gives = { λ r c d. (d.0 ≡ r.0 * c.0) × (d.0 < 2 ^ 63) };
-
-    fn mul(self, charged: Capacitance) -> Delay {
-        Delay(self.0 * charged.0)
-    }
-}
-
-// A delay as often as the weight says.
-impl Mul<Delay> for u64 {
-    type Output = Delay;
-
-    ghost can_mul = { λ n d. n * d.0 < 2 ^ 63 };
-
-    ghost mul_gives = { λ n d r. (r.0 ≡ n * d.0) × (r.0 < 2 ^ 63) };
-
-    fn mul(self, delay: Delay) -> Delay {
-        Delay(self * delay.0)
-    }
-}
-
-// A resistance as often as the weight says: what a weighted delay grows by with each unit of load.
-impl Mul<Resistance> for u64 {
-    type Output = Resistance;
-
-    ghost can_mul = { λ n r. n * r.0 < 2 ^ 63 };
-
-    ghost mul_gives = { λ n r t. (t.0 ≡ n * r.0) × (t.0 < 2 ^ 63) };
-
-    fn mul(self, resistance: Resistance) -> Resistance {
-        Resistance(self * resistance.0)
-    }
-}
-
-// The resistance of a wire: its row's times its length.
-impl Mul<u64> for Resistance {
-    type Output = Resistance;
-
-    ghost can_mul = { λ r n. (r.0 < 2 ^ 32) × (n < 2 ^ 32) };
-
-    ghost mul_gives = { λ r n t. (t.0 ≡ r.0 * n) × (t.0 < 2 ^ 64) };
-
-    fn mul(self, length: u64) -> Resistance {
-        Resistance(along(self.0, length))
-    }
-}
-
-// The capacitance of a wire: its row's times its length.
-impl Mul<u64> for Capacitance {
-    type Output = Capacitance;
-
-    ghost can_mul = { λ c n. (c.0 < 2 ^ 32) × (n < 2 ^ 32) };
-
-    ghost mul_gives = { λ c n t. (t.0 ≡ c.0 * n) × (t.0 < 2 ^ 64) };
-
-    fn mul(self, length: u64) -> Capacitance {
-        Capacitance(along(self.0, length))
-    }
-}
-
 // A figure per unit of length, times a length.
 fn along(row: u64, length: u64) -> u64
     requires { (row < 2 ^ 32) × (length < 2 ^ 32) }
@@ -128,7 +63,41 @@ fn along(row: u64, length: u64) -> u64
     row * length
 }
 
+impl Resistance {
+    // The resistance of a wire, where this is its row's.
+    pub fn along(self, length: u64) -> Resistance
+        requires { (self.0 < 2 ^ 32) × (length < 2 ^ 32) }
+        ensures { (result.0 ≡ self.0 * length) × (result.0 < 2 ^ 64) }
+    {
+        Resistance(along(self.0, length))
+    }
+
+    // The delay of a capacitance charged through the resistance.
+    pub fn charging(self, charged: Capacitance) -> Delay
+        requires { self.0 * charged.0 < 2 ^ 63 }
+        ensures { (result.0 ≡ self.0 * charged.0) × (result.0 < 2 ^ 63) }
+    {
+        Delay(self.0 * charged.0)
+    }
+
+    // The resistance as often as the weight says: what a weighted delay grows by with each unit of load.
+    pub fn weighted(self, weight: u64) -> Resistance
+        requires { weight * self.0 < 2 ^ 63 }
+        ensures { (result.0 ≡ weight * self.0) × (result.0 < 2 ^ 63) }
+    {
+        Resistance(weight * self.0)
+    }
+}
+
 impl Capacitance {
+    // The capacitance of a wire, where this is its row's.
+    pub fn along(self, length: u64) -> Capacitance
+        requires { (self.0 < 2 ^ 32) × (length < 2 ^ 32) }
+        ensures { (result.0 ≡ self.0 * length) × (result.0 < 2 ^ 64) }
+    {
+        Capacitance(along(self.0, length))
+    }
+
     // Twice what a wire's resistance charges, where this is the wire's own capacitance: half of it, and all the load under it.
     pub fn charged_twice(self, under: Capacitance) -> Capacitance
         requires { self.0 + 2 * under.0 < 2 ^ 63 }
@@ -139,6 +108,14 @@ impl Capacitance {
 }
 
 impl Delay {
+    // The delay as often as the weight says.
+    pub fn weighted(self, weight: u64) -> Delay
+        requires { weight * self.0 < 2 ^ 63 }
+        ensures { (result.0 ≡ weight * self.0) × (result.0 < 2 ^ 63) }
+    {
+        Delay(weight * self.0)
+    }
+
     // This delay with one part of it taken out and another put in its place.
     pub fn exchange(self, out: Delay, into: Delay) -> Delay
         requires whole_bound { (self.0 < 2 ^ 63) × (into.0 < 2 ^ 63) }

@@ -26,7 +26,7 @@ pub fn driver(job: &Job<'_>, k: usize, load: Capacitance) -> DelayAndLoad
 {
     let charge = job.output(k) + load;
     DelayAndLoad {
-        delay: job.driver_resistance(k) * charge,
+        delay: job.driver_resistance(k).charging(charge),
         load: charge,
     }
 }

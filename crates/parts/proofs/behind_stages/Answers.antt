@@ -5,13 +5,13 @@ use Rattle.net.proofs.Bound.{stages_delay-small, delay-fits}
 use Rattle.parts.proofs.Tallies.{whole-driven, whole-delay}
 use Rattle.parts.proofs.behind_stages.Goals as goal
 
-pub mul-requires : goal.mul-requires
-mul-requires c =
+pub weighted-requires : goal.weighted-requires
+weighted-requires c =
     let r = c.args.net.now.ready in
     omega (arith, c.stages-chain.ensures.delay, stages_delay-small _ (ordered r.checked) (limited r.checked) _ r.in_ranges)
 
-pub mul-requires-2 : goal.mul-requires-2
-mul-requires-2 c = rw c.mul.ensures.0 (whole-driven c.args.net.now.ready _ c.requires _ c.stages-chain.ensures.delay)
+pub weighted-requires-2 : goal.weighted-requires-2
+weighted-requires-2 c = rw c.weighted.ensures.0 (whole-driven c.args.net.now.ready _ c.requires _ c.stages-chain.ensures.delay)
 
 pub add-requires : goal.add-requires
 add-requires c =
@@ -20,13 +20,13 @@ add-requires c =
       arith,
       whole-delay r _ c.requires _ c.stages-chain.ensures.delay,
       delay-fits _ (ordered r.checked) (limited r.checked) _ r.in_ranges,
-      rw c.mul.ensures.0 at c.mul-2.ensures.0,
+      rw c.weighted.ensures.0 at c.weighted-2.ensures.0,
     )
 
 pub returns : goal.returns
 returns c =
     let whole = whole-delay c.args.net.now.ready _ c.requires _ c.stages-chain.ensures.delay in
     record {
-      delay = omega (arith, whole, c.add.ensures.0, rw c.mul.ensures.0 at c.mul-2.ensures.0);
+      delay = omega (arith, whole, c.add.ensures.0, rw c.weighted.ensures.0 at c.weighted-2.ensures.0);
       load = c.stages-chain.ensures.load;
     }

@@ -19,13 +19,13 @@ gate-seen-requires c =
 pub overflow_mul-part : goal.overflow_mul-part
 overflow_mul-part c = omega (arith, weight-small c.args.net.now.ready c.args.r c.requires.r_lt_repeaters _ c.requires.tally)
 
-pub mul-requires : goal.mul-requires
-mul-requires c =
+pub weighted-requires : goal.weighted-requires
+weighted-requires c =
     omega (arith, delay-room c.args.net.now.ready c.args.r c.requires.r_lt_repeaters _ c.requires.tally _ c.from-size.ensures _ c.driver-driven.ensures)
 
 pub add-requires : goal.add-requires
 add-requires c =
-    omega (arith, c.mul.ensures.0, delay-room c.args.net.now.ready c.args.r c.requires.r_lt_repeaters _ c.requires.tally _ c.from-size.ensures _ c.driver-driven.ensures)
+    omega (arith, c.weighted.ensures.0, delay-room c.args.net.now.ready c.args.r c.requires.r_lt_repeaters _ c.requires.tally _ c.from-size.ensures _ c.driver-driven.ensures)
 
 pub returns : goal.returns
 returns c =
@@ -33,6 +33,6 @@ returns c =
     let h = c.requires.r_lt_repeaters in
     record {
       part = repeated-hanging r c.args.r h _ c.requires.tally _ c.from-size.ensures _ c.driver-driven.ensures _ refl c.gate-seen.ensures
-          (omega (arith, c.add.ensures.0, c.mul.ensures.0));
+          (omega (arith, c.add.ensures.0, c.weighted.ensures.0));
       charge = charge-is r c.args.r h _ c.requires.tally _ c.from-size.ensures _ c.driver-driven.ensures;
     }
