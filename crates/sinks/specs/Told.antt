@@ -6,7 +6,7 @@ use Rattle.net.specs.Job.{weight_form, weight_whole}
 use Rattle.net.specs.Weights.{counts_as, fraction_count, fraction}
 use Rattle.net.specs.Net.{net_by}
 use Rattle.sinks.specs.declared.Weight.{Weight}
-use Rattle.sinks.specs.declared.Weight.TheVariants.{Fraction, Whole}
+use Rattle.sinks.specs.declared.Weight.TheVariants.{Fraction, Whole, Absent}
 use Rattle.sinks.specs.declared.Sink.{Sink}
 
 -- What `count` says of a fraction: what it counts, or that it counts as no whole number from 0 to 255.
@@ -15,10 +15,10 @@ CountOf x (Some k) = (some 256 (counts_as x) ≡ true) × (k ≡ fraction_count 
 CountOf x None = some 256 (counts_as x) ≡ false
 
 -- What `weight_of` says of weight record w: its form, and its weight.
-abbrev pub WeightOf : Counts → List ℕ → ℕ → Option Weight → Type 0
-WeightOf c b w (Some (Fraction x)) = (weight_form c b w ≡ 2) × (x ≡ fraction c b w)
-WeightOf c b w (Some (Whole k)) = (weight_form c b w ≡ 1) × (k ≡ weight_whole c b w)
-WeightOf c b w None = (weight_form c b w ≢ 1) × (weight_form c b w ≢ 2)
+abbrev pub WeightOf : Counts → List ℕ → ℕ → Weight → Type 0
+WeightOf c b w (Fraction x) = (weight_form c b w ≡ 2) × (x ≡ fraction c b w)
+WeightOf c b w (Whole k) = (weight_form c b w ≡ 1) × (k ≡ weight_whole c b w)
+WeightOf c b w Absent = (weight_form c b w ≢ 1) × (weight_form c b w ≢ 2)
 
 -- r is the entry of segment i's sink with this fraction.
 pub record SinkOf (c : Counts) (b : List ℕ) (i : ℕ) (x : Float) (r : Sink) : Type 0 where

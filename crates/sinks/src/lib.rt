@@ -13,11 +13,12 @@ use job::Records;
 use quantity::Capacitance;
 use std::num::{f64_from_bits_with_nan, saturating_f64_to_u8};
 
-// The weight that a weight record has, where it has one.
+// The weight that a weight record has: a fraction, a whole number, or none.
 #[derive(Clone, Copy)]
 pub enum Weight {
     Fraction(f64),
     Whole(u8),
+    Absent,
 }
 
 // A sink's entry while a job is read: its fraction beside its capacitance.
@@ -34,7 +35,7 @@ fn count(sink: Sink) -> Option<u8>
 {
     let product = sink.weight * 256.0;
     let whole = saturating_f64_to_u8(product);
-    (product == f64::from(whole)).then_some(whole)
+    (product == whole as f64).then_some(whole)
 }
 
 // A byte of weight record w.
@@ -65,15 +66,15 @@ fn fraction(records: &Records<'_>, w: usize) -> f64
 }
 
 // The weight that weight record w has.
-fn weight_of(records: &Records<'_>, w: usize) -> Option<Weight>
+fn weight_of(records: &Records<'_>, w: usize) -> Weight
     requires readable { w < records.now.weights }
     requires fits { WeightFits records.now.counts records.now.bytes.now w }
     ensures { WeightOf records.now.counts records.now.bytes.now w result }
 {
     match weight_byte(records, w, 2) {
-        1 => Some(Weight::Whole(weight_word(records, w, 4) as u8)),
-        2 => Some(Weight::Fraction(fraction(records, w))),
-        _ => None,
+        1 => Weight::Whole(weight_word(records, w, 4) as u8),
+        2 => Weight::Fraction(fraction(records, w)),
+        _ => Weight::Absent,
     }
 }
 
@@ -99,18 +100,18 @@ fn load_one(records: &Records<'_>, w: usize, weights: &mut [u8; 64]) -> bool
 {
     let i = weight_byte(records, w, 1);
     match weight_of(records, w) {
-        Some(Weight::Fraction(x)) => match count(entry(records, i, x)) {
+        Weight::Fraction(x) => match count(entry(records, i, x)) {
             Some(k) => {
                 weights[i] = k;
                 true
             }
             None => false,
         },
-        Some(Weight::Whole(k)) => {
+        Weight::Whole(k) => {
             weights[i] = k;
             true
         }
-        None => true,
+        Weight::Absent => true,
     }
 }
 

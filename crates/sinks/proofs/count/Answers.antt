@@ -8,4 +8,4 @@ pub returns : goal.returns
 unfolding of_bits
 returns c =
     let t : T (fits binary64 c.args.sink.weight) = search rules in
-    rw (c.then_some.ensures, c.from.ensures, c.saturating_f64_to_u8-whole.ensures) (whole-counts-as c.args.sink.weight t (omega arith))
+    rw (c.then_some.ensures, c.saturating_f64_to_u8-whole.ensures) (whole-counts-as c.args.sink.weight t (omega arith))
