@@ -9,8 +9,7 @@ use native.Mathlib.Decide.{ℕ_discrete}
 use native.Mathlib.Omega.{arith}
 use borrow.Author.Tests.{lt-leb}
 use lib.Dec.{leb, le→leb}
-use lib.ListN.{length, get_or, set, replicate, length-set}
-use Rattle.std.proofs.lemmas.List.{get_or-replicate}
+use lib.ListN.{length, get_or, set, length-set}
 use lib.Seq.{get_or-set_same, get_or-set_other}
 use Rattle.lattice.proofs.ListLaws.{is_true, at_every}
 use Rattle.lattice.proofs.Every.{every-fails}
@@ -21,7 +20,7 @@ use Rattle.net.specs.Questions.{question9}
 use Rattle.job.specs.declared.runs.Run.{Run}
 use Rattle.job.specs.Runs.{byte_of}
 use Rattle.job.specs.RunOf.{RunOf}
-use Rattle.links.specs.Links.{First, Linked}
+use Rattle.links.specs.Links.{First, Linked, Unlinked}
 
 -- what the filling of the links knows when the segments from j on are linked: each of them hangs at a node that stands before it
 pub record Linking (net : Net) (first next : List ℕ) (j : ℕ) : Type 0 where
@@ -33,13 +32,14 @@ pub record Linking (net : Net) (first next : List ℕ) (j : ℕ) : Type 0 where
 
 module _ (net : Net) where
   -- before any segment is linked, each node has the one past the last
-  pub linking-start : {next : List ℕ} → net.segments ≤ 64 → length next ≡ 64 → Linking net (replicate 65 net.segments) next net.segments
-  linking-start h e =
+  pub linking-start : (long : ℕ) (first next : List ℕ) → net.segments < long → net.segments ≤ length next → Unlinked net.segments long first (net.segments + 1)
+      → Linking net first next net.segments
+  linking-start long first next h k u =
       record {
         nodes = omega arith;
-        segments = omega arith;
+        segments = k;
         falls = λ i l m. absurd (omega arith);
-        firsts = λ q l. rw (get_or-replicate 65 q net.segments 0 (omega arith)) record {
+        firsts = λ q l. rw (u.none q (omega arith)) record {
           from = omega arith;
           within = omega arith;
           none = λ i m n. absurd (omega arith);

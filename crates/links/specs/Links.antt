@@ -22,6 +22,15 @@ pub record Linked (net : Net) (first next : List ℕ) : Type 0 where
 abbrev pub LinkedBy : Counts → List ℕ → List ℕ → List ℕ → Type 0
 LinkedBy c b first next = Linked (net_by c b) first next
 
+-- Both tables have kept their lengths.
+abbrev pub SameLengths : (first next first' next' : List ℕ) → Type 0
+SameLengths first next first' next' = (length first' ≡ length first) × (length next' ≡ length next)
+
+-- Before any segment is linked: of `long` entries those below q say that there is none of n.
+pub record Unlinked (n long : ℕ) (first : List ℕ) (q : ℕ) : Type 0 where
+  pub same : length first ≡ long
+  pub none : (k : ℕ) → k < q → get_or first k 0 ≡ n
+
 -- The branches of segment j and of its siblings after it, each by what it has with its own branches: nothing where j is the number of segments.
 abbrev pub siblings : Net → (ℕ → ℕ → ℕ) → ℕ → ℕ
 siblings net has j = forest net.parent has (net.segments - j) (net.parent j) j

@@ -1,9 +1,9 @@
 // The segments at each node, found once for a job, so that a walk over the tree asks each segment once.
 #![tactic(auto)]
 
-ghost use Rattle.std.specs.Prelude.{◌≡◌, true, ◌≤◌};
+ghost use Rattle.std.specs.Prelude.{◌≡◌, true, ◌+◌, ◌<◌, ◌≤◌, length};
 ghost use Rattle.net.specs.Questions.{question9};
-ghost use Rattle.links.specs.Links.{LinkedBy};
+ghost use Rattle.links.specs.Links.{Unlinked, LinkedBy, SameLengths};
 
 use job::Records;
 
@@ -24,23 +24,35 @@ impl Links {
     }
 }
 
-// Finds the links of a job: from the last segment down, each goes before the first at its node. Each parent is read here, so question 9 is asked here
-// too: a parent byte above the segment's own number ends the loop, and what the tables hold then says nothing.
-pub fn link(records: &Records<'_>, links: &mut Links) -> bool
-    requires { records.now.counts.segments ≤ 64 }
+// No segment is linked yet: at each node the first is the one past the last.
+fn unlink(first: &mut [usize], n: usize)
+    requires { n < length first.old }
+    ensures { Unlinked n (length first.old) first.new (n + 1) }
+{
+    for q in 0..n + 1 {
+        first[q] = n;
+    }
+}
+
+// Fills two tables, such as those of `Links`, with the first segment at each node and the next sibling of each segment: from the last segment down, each
+// goes before the first at its node. Each parent is read here, so question 9 is asked here too: a parent byte above the segment's own number ends the
+// loop, and what the tables hold then says nothing.
+pub fn link(records: &Records<'_>, first: &mut [usize], next: &mut [usize]) -> bool
+    requires { (records.now.counts.segments < length first.old) × (records.now.counts.segments ≤ length next.old) }
     ensures asked { result ≡ question9 records.now.counts records.now.bytes.now }
-    ensures linked { result ≡ true → LinkedBy records.now.counts records.now.bytes.now links.new.first links.new.next }
+    ensures linked { result ≡ true → LinkedBy records.now.counts records.now.bytes.now first.new next.new }
+    ensures lengths { SameLengths first.old next.old first.new next.new }
 {
     let n = records.counts.segments;
     let segments = records.segments();
-    links.first = [n; 65];
+    unlink(first, n);
     for j in (0..n).rev() {
         let parent = segments.byte(j, 2);
         if j < parent {
             return false;
         }
-        links.next[j] = links.first[parent];
-        links.first[parent] = j;
+        next[j] = first[parent];
+        first[parent] = j;
     }
     true
 }

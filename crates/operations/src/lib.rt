@@ -23,7 +23,7 @@ pub fn measure(job: &[u8], sizing: &[u8]) -> Result<DelayAndLoad, Refusal>
 {
     let mut links = Links::new();
     let mut weights = [0u8; 64];
-    let checked = questions::check(job, &mut links, &mut weights)?.job;
+    let checked = questions::check(job, &mut links.first, &mut links.next, &mut weights)?.job;
     allowed::check_sizing(&checked, sizing)?;
     let net = SizedJob {
         job: checked,
@@ -39,7 +39,7 @@ pub fn refine(job: &[u8], sizing: &[u8], place: usize) -> Result<EndsAndDelay, R
 {
     let mut links = Links::new();
     let mut weights = [0u8; 64];
-    let job = questions::check(job, &mut links, &mut weights)?.job;
+    let job = questions::check(job, &mut links.first, &mut links.next, &mut weights)?.job;
     allowed::check_sizing(&job, sizing)?;
     let places = job.places();
     require(place < places, Refusal::Place)?;
@@ -57,7 +57,9 @@ pub fn prefer(job: &[u8], x: &[u8], y: &[u8]) -> Option<Preference>
 {
     let mut links = Links::new();
     let mut weights = [0u8; 64];
-    let job = questions::check(job, &mut links, &mut weights).ok()?.job;
+    let job = questions::check(job, &mut links.first, &mut links.next, &mut weights)
+        .ok()?
+        .job;
     allowed::check_sizing(&job, x).ok()?;
     allowed::check_sizing(&job, y).ok()?;
     let places = job.places();

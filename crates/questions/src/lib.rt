@@ -12,7 +12,6 @@ ghost use Rattle.asked.specs.Parts.{Firsts};
 ghost use Rattle.questions.specs.Check.{Begun, CheckOf, PassedOf, questions_from1, questions_from24, questions_from22};
 
 use job::{Job, Records};
-use links::Links;
 use refusal::{Refusal, require};
 
 // A job that passed all its questions, and the count of its records.
@@ -94,18 +93,20 @@ fn questions_from_22(
 fn questions_from_1<'a>(
     bytes: &'a [u8],
     n: usize,
-    links: &mut Links,
+    first: &mut [usize],
+    next: &mut [usize],
     weights: &mut [u8; 64],
 ) -> Result<Job<'a>, Refusal>
-    requires { n ≡ records bytes.now }
+    requires counted { n ≡ records bytes.now }
+    requires in_bounds { (64 < length first.old) × (64 ≤ length next.old) }
     ensures number { refusal_number result ≡ refusal bytes.now }
-    ensures passed { IfOk result (λ job. PassedOf bytes.now job links.new.first links.new.next weights.new) }
+    ensures passed { IfOk result (λ job. PassedOf bytes.now job first.new next.new weights.new) }
 {
     let records = count_records(bytes, n)?;
     questions_from_24(&records)?;
-    require(links::link(&records, links), Refusal::Parents)?;
-    segments::segments_fit(&records, &links.first, weights)?;
-    questions_from_22(&records, &links.first, weights)?;
+    require(links::link(&records, first, next), Refusal::Parents)?;
+    segments::segments_fit(&records, first, weights)?;
+    questions_from_22(&records, first, weights)?;
     Ok(Job {
         bytes: records.bytes,
         counts: records.counts,
@@ -116,13 +117,15 @@ fn questions_from_1<'a>(
 // sink. The count of its records is told either way. The length is divided here and nowhere else.
 pub fn check<'a>(
     bytes: &'a [u8],
-    links: &mut Links,
+    first: &mut [usize],
+    next: &mut [usize],
     weights: &mut [u8; 64],
 ) -> Result<Passed<'a>, Failed>
-    ensures { CheckOf bytes.now result links.new.first links.new.next weights.new }
+    requires { (64 < length first.old) × (64 ≤ length next.old) }
+    ensures { CheckOf bytes.now result first.new next.new weights.new }
 {
     let records = bytes.len() / 16;
-    match questions_from_1(bytes, records, links, weights) {
+    match questions_from_1(bytes, records, first, next, weights) {
         Ok(job) => Ok(Passed { job, records }),
         Err(refusal) => Err(Failed { refusal, records }),
     }

@@ -115,7 +115,7 @@ pub fn size(job: &[u8], reply: &mut [u8]) -> Result<Reply, Unwritten>
 {
     let mut links = Links::new();
     let mut weights = [0u8; 64];
-    let job = questions::check(job, &mut links, &mut weights)?.job;
+    let job = questions::check(job, &mut links.first, &mut links.next, &mut weights)?.job;
     let places = job.places();
     if reply.len() < 8 * (1 + places) {
         return Err(Unwritten::TooShort(job.counts));

@@ -21,7 +21,9 @@ returns-in_err-questions_from_24-clause-number c =
     search (rules, h)
 
 pub link-requires : goal.link-requires
-link-requires c = few-segments c.in_ok-records.ensures.begun c.in_ok-questions_from_24.ensures
+link-requires c =
+    let f = few-segments c.in_ok-records.ensures.begun c.in_ok-questions_from_24.ensures in
+    (omega arith, omega arith)
 
 pub returns-in_err-require-clause-number : goal.returns-in_err-require-clause-number
 unfolding questions_from9
@@ -33,7 +35,7 @@ returns-in_err-require-clause-number c =
 ten : (c : After-segments_fit) → all_fit c.in_ok-records.records.counts c.in_ok-records.records.bytes.now ≡ question10 c.in_ok-records.records.counts c.in_ok-records.records.bytes.now
 ten c = question10-by _ _ (rw c.in_ok-records.ensures.begun.bytes (λ i. omega (arith, c.type_inv.bytes i))) refl
 
-eleven : (c : After-segments_fit) → all_end c.in_ok-records.records.counts c.in_ok-records.records.bytes.now c.link.new.links.first ≡ question11 c.in_ok-records.records.counts c.in_ok-records.records.bytes.now
+eleven : (c : After-segments_fit) → all_end c.in_ok-records.records.counts c.in_ok-records.records.bytes.now c.link.new.first ≡ question11 c.in_ok-records.records.counts c.in_ok-records.records.bytes.now
 eleven c =
     let l = c.link.ensures.linked (passes _ refl c.in_ok-require.ensures) in
     question11-by _ _ _ (record { nodes = l.nodes; firsts = l.firsts }) refl
@@ -46,10 +48,18 @@ returns-in_err-segments_fit-clause-number c =
     (yes 8 _ c.link.ensures.asked c.in_ok-require.ensures (segments-refuse _ _ _ (ten a) (eleven a) _ _ c.in_err-segments_fit.ensures.number)) in
     search (rules, h)
 
+pub segments_fit-requires : goal.segments_fit-requires
+segments_fit-requires c =
+    let f = few-segments c.in_ok-records.ensures.begun c.in_ok-questions_from_24.ensures in
+    (omega (arith, c.link.ensures.lengths.0), f)
+
+pub questions_from_22-requires-clause-few : goal.questions_from_22-requires-clause-few
+questions_from_22-requires-clause-few c = few-segments c.in_ok-records.ensures.begun c.in_ok-questions_from_24.ensures
+
 pub questions_from_22-requires-clause-loaded_to : goal.questions_from_22-requires-clause-loaded_to
 questions_from_22-requires-clause-loaded_to c =
     let r = c.in_ok-records.records in
-    own-loaded {c = r.counts} (c.segments_fit.ensures.weights (all-fit r.counts r.bytes.now c.link.new.links.first c.in_ok-segments_fit.ensures.number))
+    own-loaded {c = r.counts} (c.segments_fit.ensures.weights (all-fit r.counts r.bytes.now c.link.new.first c.in_ok-segments_fit.ensures.number))
 
 -- what is known once questions 22, 23, 20 and 21 are asked
 from-22 : (c : After-questions_from_22) → {n : ℕ} → n ≡ first_no (questions_from22 c.in_ok-records.records.counts c.in_ok-records.records.bytes.now) → n ≡ refusal c.args.bytes.now
