@@ -144,7 +144,8 @@ class Progress(unittest.TestCase):
         result = subprocess.run(self.words, capture_output=True)
         self.assertEqual(result.returncode, 3)
         self.assertEqual(result.stdout, b"")
-        self.assertRegex(result.stderr, b"^proved lattice \\([0-9]+ s\\), 1 of 2\nproved net \\([0-9]+ s\\), 2 of 2\n$")
+        # `quantity`, of which the command says nothing, is counted with `net`, which stands on it.
+        self.assertRegex(result.stderr, b"^proved lattice \\([0-9]+ s\\), 1 of 3\nproved net \\([0-9]+ s\\), 3 of 3\n$")
         self.assertIn("some words\n", self.log.read_text())
         self.assertTrue(self.log.read_text().endswith("\nnet\n"))
 
@@ -178,8 +179,8 @@ class Progress(unittest.TestCase):
         shown = os.read(ours, 4096).decode()
         os.close(ours)
         self.assertEqual((result.returncode, result.stdout), (3, b""))
-        self.assertRegex(shown, "\r\033\\[K1 of 2 crates proved, \\d+ min \\d\\d s, at net")
-        self.assertRegex(shown, "\r\033\\[K2 of 2 crates proved, \\d+ min \\d\\d s, last net")
+        self.assertRegex(shown, "\r\033\\[K1 of 3 crates proved, \\d+ min \\d\\d s, at net")
+        self.assertRegex(shown, "\r\033\\[K3 of 3 crates proved, \\d+ min \\d\\d s, last net")
         self.assertTrue(shown.endswith("\r\033[K"))
 
 

@@ -3,6 +3,7 @@ ghost use Rattle.std.specs.Prelude.{◌≡◌, ◌+◌, ◌-◌};
 ghost use Rattle.net.specs.Job.{places_by, widths_of};
 ghost use Rattle.net.specs.Checked.{Held, WeightsHeld};
 ghost use Rattle.job.specs.RunOf.{RunOf};
+ghost use Rattle.job.specs.Runs.{HasRun};
 
 use super::Run;
 use net::Counts;
@@ -18,36 +19,36 @@ pub struct Records<'a> {
 }
 
 impl<'a> Records<'a> {
-    pub fn widths(&self) -> Run<'a>
-        ensures { RunOf self.now.bytes.now 0 self.now.counts.widths result }
+    // The run of so many records from a start on.
+    fn run(&self, start: usize, count: usize) -> Run<'a>
+        requires { HasRun self.now.bytes.now start count }
+        ensures { RunOf self.now.bytes.now start count result }
     {
         Run {
             bytes: self.bytes,
-            start: 0,
-            count: self.counts.widths,
+            start,
+            count,
         }
+    }
+
+    pub fn widths(&self) -> Run<'a>
+        ensures { RunOf self.now.bytes.now 0 self.now.counts.widths result }
+    {
+        self.run(0, self.counts.widths)
     }
 
     // The widths of layer 0.
     pub fn layer0(&self) -> Run<'a>
         ensures { RunOf self.now.bytes.now 0 self.now.counts.layer0 result }
     {
-        Run {
-            bytes: self.bytes,
-            start: 0,
-            count: self.counts.layer0,
-        }
+        self.run(0, self.counts.layer0)
     }
 
     // The widths of layer 1.
     pub fn layer1(&self) -> Run<'a>
         ensures { RunOf self.now.bytes.now self.now.counts.layer0 (self.now.counts.widths - self.now.counts.layer0) result }
     {
-        Run {
-            bytes: self.bytes,
-            start: self.counts.layer0,
-            count: self.counts.widths - self.counts.layer0,
-        }
+        self.run(self.counts.layer0, self.counts.widths - self.counts.layer0)
     }
 
     // How many widths a layer has.
@@ -63,53 +64,40 @@ impl<'a> Records<'a> {
     pub fn sizes(&self) -> Run<'a>
         ensures { RunOf self.now.bytes.now self.now.counts.widths self.now.counts.sizes result }
     {
-        Run {
-            bytes: self.bytes,
-            start: self.counts.widths,
-            count: self.counts.sizes,
-        }
+        self.run(self.counts.widths, self.counts.sizes)
     }
 
     pub fn stages(&self) -> Run<'a>
         ensures { RunOf self.now.bytes.now (self.now.counts.widths + self.now.counts.sizes) self.now.counts.stages result }
     {
-        Run {
-            bytes: self.bytes,
-            start: self.counts.widths + self.counts.sizes,
-            count: self.counts.stages,
-        }
+        self.run(self.counts.widths + self.counts.sizes, self.counts.stages)
     }
 
     pub fn segments(&self) -> Run<'a>
         ensures { RunOf self.now.bytes.now (self.now.counts.widths + self.now.counts.sizes + self.now.counts.stages) self.now.counts.segments result }
     {
-        Run {
-            bytes: self.bytes,
-            start: self.counts.widths + self.counts.sizes + self.counts.stages,
-            count: self.counts.segments,
-        }
+        self.run(
+            self.counts.widths + self.counts.sizes + self.counts.stages,
+            self.counts.segments,
+        )
     }
 
     pub fn repeaters(&self) -> Run<'a>
         ensures { RunOf self.now.bytes.now (self.now.counts.widths + self.now.counts.sizes + (self.now.counts.stages + self.now.counts.segments)) self.now.counts.repeaters result }
     {
-        Run {
-            bytes: self.bytes,
-            start: self.counts.widths
-                + self.counts.sizes
-                + (self.counts.stages + self.counts.segments),
-            count: self.counts.repeaters,
-        }
+        self.run(
+            self.counts.widths + self.counts.sizes + (self.counts.stages + self.counts.segments),
+            self.counts.repeaters,
+        )
     }
 
     pub fn weights(&self) -> Run<'a>
         ensures { RunOf self.now.bytes.now (self.now.counts.widths + self.now.counts.sizes + places_by self.now.counts) self.now.weights result }
     {
         let places = self.counts.stages + self.counts.segments + self.counts.repeaters;
-        Run {
-            bytes: self.bytes,
-            start: self.counts.widths + self.counts.sizes + places,
-            count: self.weights,
-        }
+        self.run(
+            self.counts.widths + self.counts.sizes + places,
+            self.weights,
+        )
     }
 }

@@ -83,7 +83,7 @@ impl Job<'_> {
     }
 
     // A word of width k's record.
-    fn row_word(&self, k: usize, at: usize) -> u64
+    pub fn row_word(&self, k: usize, at: usize) -> u64
         requires { (k < self.now.counts.widths) × (at ≤ 12) }
         ensures { (result ≡ word self.now.bytes.now (width_at k + at)) × (result < 2 ^ 32) }
     {
@@ -91,7 +91,7 @@ impl Job<'_> {
     }
 
     // A word of driver size k's record.
-    fn size_word(&self, k: usize, at: usize) -> u64
+    pub fn size_word(&self, k: usize, at: usize) -> u64
         requires { (k < self.now.counts.sizes) × (at ≤ 12) }
         ensures { (result ≡ word self.now.bytes.now (size_at self.now.counts k + at)) × (result < 2 ^ 32) }
     {
@@ -147,7 +147,7 @@ impl Job<'_> {
     }
 
     // Where among the widths the table of place p's layer starts. A stage has no layer, and its byte there is zero.
-    fn first_row(&self, p: usize) -> usize
+    pub fn first_row(&self, p: usize) -> usize
         requires { p < places_by self.now.counts }
         ensures { result ≡ first_row self.now.counts (byte self.now.bytes.now (place_at self.now.counts p + 15)) }
     {

@@ -1,5 +1,5 @@
 // A run of a job's records, of one kind.
-ghost use Rattle.std.specs.Prelude.{◌≡◌, ◌<◌, ◌≤◌};
+ghost use Rattle.std.specs.Prelude.{◌≡◌, ◌^◌, ◌<◌, ◌≤◌};
 ghost use Rattle.job.specs.Runs.{HasRun, byte_of, word_of};
 
 use super::word_at;
@@ -25,7 +25,7 @@ impl Run<'_> {
     // The word at `at` of the run's record k.
     pub fn word(&self, k: usize, at: usize) -> usize
         requires { (k < self.now.count) × (at ≤ 12) }
-        ensures { result ≡ word_of self.now.bytes.now self.now.start at k }
+        ensures { (result ≡ word_of self.now.bytes.now self.now.start at k) × (result < 2 ^ 32) }
     {
         word_at(self.bytes, 16 * (self.start + k) + at) as usize
     }
