@@ -4,6 +4,7 @@
 ghost use Rattle.std.specs.Prelude.{◌≡◌, suc, ◌*◌, ◌≤◌, length};
 ghost use Rattle.net.specs.Job.{places_by};
 ghost use Rattle.net.specs.Checked.{ForPlaces};
+ghost use Rattle.positions.specs.Arranged.{PositionsOf};
 ghost use Rattle.finish.specs.Parts.{BoundedBy, LeastBy, buffer_by};
 
 use envelope::Kept;
@@ -37,12 +38,14 @@ fn least(
 // Finds the least delay, lean and wide in lent working space, and writes the finished reply.
 fn find_and_write(
     places: &Places<'_>,
+    position: &[usize; 76],
     bounds: Bounds<'_>,
     x: &mut [u8],
     lean: &mut [u8],
     wide: &mut [u8],
     reply: &mut [u8],
 )
+    requires positions_of { PositionsOf places.now.arranged.job.counts places.now.arranged.job.bytes.now position.now }
     requires bounded_by { BoundedBy places.now.arranged.job.counts places.now.arranged.job.bytes.now bounds.lower.now bounds.upper.now }
     requires for_places { ForPlaces places.now.arranged.job.counts x.old × ForPlaces places.now.arranged.job.counts lean.old × ForPlaces places.now.arranged.job.counts wide.old }
     requires counts_in_bounds { 8 * suc (places_by places.now.arranged.job.counts) ≤ length reply.old }
@@ -53,11 +56,12 @@ fn find_and_write(
         lower: lean,
         upper: wide,
     };
-    reply::finished(reply, &places.arranged.position, delay, bounds, envelope);
+    reply::finished(reply, position, delay, bounds, envelope);
 }
 
 // Writes the finished reply.
-pub fn finish(places: &Places<'_>, bounds: Bounds<'_>, reply: &mut [u8])
+pub fn finish(places: &Places<'_>, position: &[usize; 76], bounds: Bounds<'_>, reply: &mut [u8])
+    requires positions_of { PositionsOf places.now.arranged.job.counts places.now.arranged.job.bytes.now position.now }
     requires bounded_by { BoundedBy places.now.arranged.job.counts places.now.arranged.job.bytes.now bounds.lower.now bounds.upper.now }
     requires counts_in_bounds { 8 * suc (places_by places.now.arranged.job.counts) ≤ length reply.old }
     ensures { reply.new ≡ buffer_by places.now.arranged.job.counts places.now.arranged.job.bytes.now 0 reply.old }
@@ -68,6 +72,7 @@ pub fn finish(places: &Places<'_>, bounds: Bounds<'_>, reply: &mut [u8])
     let mut wide = [0; 76];
     find_and_write(
         places,
+        position,
         bounds,
         &mut x[..n],
         &mut lean[..n],

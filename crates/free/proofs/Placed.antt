@@ -16,7 +16,7 @@ use Rattle.place.specs.Partial.{StepOf}
 use Rattle.place.specs.ByCounts.{StepInLimits}
 use Rattle.place.proofs.Loads.{loads-at}
 use Rattle.free.specs.declared.FreePlace.{FreePlace}
-use Rattle.free.specs.Searching.{Between, BothLong, FreePlaceAt, AllFit, PassedBy}
+use Rattle.free.specs.Searching.{Between, Prepared, BothLong, FreePlaceAt, AllFit, PassedBy}
 
 -- the load that has arrived behind the place before `left`, by the table of loads
 pub gathered-at : (g : List Capacitance) (left load d : ℕ) → 0 < left → load ≡ d + (get_or g left (record { 0 = 0 })).0 → load ≡ d + at (loads g) (left - 1 + 1)
@@ -62,3 +62,6 @@ module _ {c : Counts} {job orders weights upstream driven lower upper : List ℕ
 pub between-long : {c : Counts} {job lower upper : List ℕ} → Between c job lower upper → BothLong c lower upper
 between-long {c} {job} {lower} {upper} b =
     (omega (arith, ((allowed-by (driving_by c job) lower).0 b.lower_allowed).long), omega (arith, ((allowed-by (driving_by c job) upper).0 b.upper_allowed).long))
+
+pub prepared-long : {c : Counts} {job orders weights upstream driven ups skips lower upper : List ℕ} → Prepared c job orders weights upstream driven ups skips lower upper → BothLong c lower upper
+prepared-long p = between-long (record { lower_allowed = p.lower_allowed; upper_allowed = p.upper_allowed; in_order = p.in_order })

@@ -14,13 +14,13 @@ use Rattle.free.specs.Searching.{FreePlaceAt, FreeBefore, Searched, PassedTo}
 module _ (s : SearchTables) where
   -- The net that is sized.
   abbrev pub net_of : Driving
-  net_of = driving_by s.places.now.arranged.job.counts s.places.now.arranged.job.bytes.now
+  net_of = driving_by s.job.counts s.job.bytes.now
 
   -- r is the place at position t with what its steps need.
   abbrev pub IsAt : ℕ → FreePlace → Type 0
   IsAt t r =
-      FreePlaceAt s.places.now.arranged.job.counts s.places.now.arranged.job.bytes.now s.places.now.arranged.order s.places.now.weights
-      (resistances s.upstream) (loads s.driven) s.bounds.lower.now s.bounds.upper.now t r
+      FreePlaceAt s.job.counts s.job.bytes.now s.order.now s.weights.now (resistances s.upstream) (loads s.driven) s.bounds.lower.now
+      s.bounds.upper.now t r
 
   -- The place before `left` is free, and the free places from `left` on are sized by x.
   abbrev pub IsBefore : (left added : ℕ) (x : List ℕ) (gathered : List Capacitance) (kept : Kept) → Type 0
@@ -37,7 +37,7 @@ module _ (s : SearchTables) where
   -- At the place before `left` the indices before k are passed over.
   abbrev pub PassedAt : (left added : ℕ) (gathered : List Capacitance) (least k : ℕ) → Type 0
   PassedAt left added gathered least k =
-      PassedTo net_of (at s.places.now.weights (left - 1)) (at (resistances s.upstream) (left - 1)) (left - 1)
+      PassedTo net_of (at s.weights.now (left - 1)) (at (resistances s.upstream) (left - 1)) (left - 1)
       (at (loads s.driven) (left - 1) + at (loads gathered) (left - 1 + 1)) added least (at s.bounds.lower.now (left - 1)) (at s.bounds.upper.now (left - 1)) k
 
   -- Every sizing between the bounds that has the indices of x from `left` on was taken.

@@ -5,9 +5,11 @@
 ghost use Rattle.std.specs.Prelude.{◌≡◌, ◌<◌, ◌≤◌, IfSome};
 ghost use Rattle.net.specs.Job.{places_by};
 ghost use Rattle.job.specs.Tables.{TableOf};
+ghost use Rattle.positions.specs.Arranged.{PlacesInOrder};
 ghost use Rattle.place.specs.ByCounts.{StepInLimits};
+ghost use Rattle.place.specs.Figures.{loads, resistances};
 ghost use Rattle.envelope.specs.Kept.{SameSpace};
-ghost use Rattle.free.specs.Searching.{AllFit, PassedBy, ReachedBy, first_of};
+ghost use Rattle.free.specs.Searching.{FreePlaceAt, BothLong, AllFit, PassedBy, ReachedBy, first_of};
 ghost use Rattle.free.specs.ByTables.{IsAt, IsBefore, IsLast, PassedAt, SearchedFrom};
 
 mod prepared;
@@ -15,8 +17,9 @@ mod prepared;
 use envelope::Kept;
 use job::{Job, Range};
 use place::Spot;
-pub use prepared::SearchTables;
-use quantity::{Capacitance, Delay};
+use positions::Bounds;
+pub use prepared::{SearchSetup, SearchTables, lift, skip};
+use quantity::{Capacitance, Delay, Resistance};
 
 // A free place as the search tries its indices: what its steps need, the load of the held places that it drives, and the indices that the bounds
 // leave it. All stays as it is whatever the indices of the free places.
@@ -28,6 +31,31 @@ pub struct FreePlace {
 }
 
 impl FreePlace {
+    // The place at position t with what its steps need, as the tables have it, whether they are filled or not.
+    pub fn new(
+        job: &Job<'_>,
+        order: &[usize; 76],
+        weights: &[u64; 76],
+        upstream: &[Resistance; 76],
+        driven: &[Capacitance; 76],
+        bounds: Bounds<'_>,
+        t: usize,
+    ) -> FreePlace
+        requires places_in_order { PlacesInOrder job.now.counts job.now.bytes.now order.now }
+        requires both_long { BothLong job.now.counts bounds.lower.now bounds.upper.now }
+        requires t_bound { t < places_by job.now.counts }
+        ensures { FreePlaceAt job.now.counts job.now.bytes.now order.now weights.now (resistances upstream.now) (loads driven.now) bounds.entry.lower.now bounds.entry.upper.now t result }
+    {
+        FreePlace {
+            spot: Spot::new(job, weights[t], upstream[t], order[t]),
+            driven: driven[t],
+            range: Range {
+                lowest: bounds.lower[t],
+                highest: bounds.upper[t],
+            },
+        }
+    }
+
     // The first index that gives a delay of at most `least`, where there is one. It writes nothing and is called at the last free place, so most
     // sizings of a search are passed over by it.
     pub fn pass_over(
@@ -57,19 +85,18 @@ impl FreePlace {
 impl SearchTables<'_, '_, '_> {
     // The place at position t with what its steps need, read once for all of them.
     pub fn free_place(&self, t: usize) -> FreePlace
-        requires { t < places_by self.now.places.now.arranged.job.counts }
+        requires { t < places_by self.now.job.counts }
         ensures { IsAt self.now t result }
     {
-        let arranged = &self.places.arranged;
-        let p = arranged.order[t];
-        FreePlace {
-            spot: Spot::new(&arranged.job, self.places.weights[t], self.upstream[t], p),
-            driven: self.driven[t],
-            range: Range {
-                lowest: self.bounds.lower[t],
-                highest: self.bounds.upper[t],
-            },
-        }
+        FreePlace::new(
+            &self.job,
+            self.order,
+            self.weights,
+            &self.upstream,
+            &self.driven,
+            self.bounds,
+            t,
+        )
     }
 
     // Takes every sizing that has the indices of x but at the place before `left`, the last one that is free; those before the index `start` there
@@ -91,7 +118,7 @@ impl SearchTables<'_, '_, '_> {
     {
         let t = left - 1;
         let here = self.free_place(t);
-        let job = &self.places.arranged.job;
+        let job = &self.job;
         let load = here.driven + gathered[left];
         for k in start..=here.range.highest {
             let step = here.spot.step(job, usize::from(k), load);

@@ -30,7 +30,7 @@ fn arrival(arranged: &Arranged<'_>, bounds: Bounds<'_>, ups: &[usize; 76], node:
 }
 
 // The nodes at which the loads of the positions arrive.
-fn lift(arranged: &Arranged<'_>, bounds: Bounds<'_>) -> [usize; 76]
+pub fn lift(arranged: &Arranged<'_>, bounds: Bounds<'_>) -> [usize; 76]
     requires { BothLong arranged.now.job.counts bounds.lower.now bounds.upper.now }
     ensures { Lifted arranged.now.job.counts arranged.now.job.bytes.now bounds.entry.lower.now bounds.entry.upper.now result }
 {
@@ -42,7 +42,7 @@ fn lift(arranged: &Arranged<'_>, bounds: Bounds<'_>) -> [usize; 76]
 }
 
 // Of how many places the last one is free, up to each place.
-fn skip(job: &Job<'_>, bounds: Bounds<'_>) -> [usize; 77]
+pub fn skip(job: &Job<'_>, bounds: Bounds<'_>) -> [usize; 77]
     requires { BothLong job.now.counts bounds.lower.now bounds.upper.now }
     ensures { Skipped job.now.counts bounds.entry.lower.now bounds.entry.upper.now result }
 {
@@ -58,41 +58,56 @@ fn skip(job: &Job<'_>, bounds: Bounds<'_>) -> [usize; 77]
     skips
 }
 
-// The places and the bounds of a search, what the held places add to the delay, and by position the weighted resistances upstream, the loads that the
-// held places make each drive, the nodes at which loads arrive, and of how many places the last one is free.
+// The places and the bounds of a search, and by position the weighted resistances upstream, the loads that the held places make each drive, the nodes
+// at which loads arrive, and of how many places the last one is free.
 #[derive(Clone, Copy)]
 pub struct SearchTables<'p, 'a, 'b> {
-    pub places: &'p Places<'a>,
+    pub job: Job<'a>,
+    pub order: &'p [usize; 76],
+    pub weights: &'p [u64; 76],
     pub bounds: Bounds<'b>,
-    pub fixed: Delay,
     pub upstream: [Resistance; 76],
     pub driven: [Capacitance; 76],
     pub ups: [usize; 76],
     pub skips: [usize; 77],
-    ghost prepared: { Prepared places.now.arranged.job.counts places.now.arranged.job.bytes.now places.now.arranged.order places.now.weights (resistances upstream) (loads driven) ups skips bounds.lower.now bounds.upper.now },
-    ghost held_add: { fixed.0 ≡ fixed_delay places.now.arranged.job.counts places.now.arranged.job.bytes.now bounds.lower.now bounds.upper.now driven },
+    ghost prepared: { Prepared job.counts job.bytes.now order.now weights.now (resistances upstream) (loads driven) ups skips bounds.lower.now bounds.upper.now },
 }
 
-impl<'p, 'a, 'b> SearchTables<'p, 'a, 'b> {
-    // The tables of a search between two bounds.
-    pub fn new(places: &'p Places<'a>, bounds: Bounds<'b>) -> SearchTables<'p, 'a, 'b>
+// What a search between two bounds begins with: its tables, and what the held places add to the delay.
+#[derive(Clone, Copy)]
+pub struct SearchSetup<'p, 'a, 'b> {
+    pub tables: SearchTables<'p, 'a, 'b>,
+    pub fixed: Delay,
+    ghost held_add: { fixed.0 ≡ fixed_delay tables.job.counts tables.job.bytes.now tables.bounds.lower.now tables.bounds.upper.now tables.driven },
+}
+
+impl<'p, 'a, 'b> SearchSetup<'p, 'a, 'b> {
+    // What a search of the places between two bounds begins with.
+    pub fn new(places: &'p Places<'a>, bounds: Bounds<'b>) -> SearchSetup<'p, 'a, 'b>
         requires { Between places.now.arranged.job.counts places.now.arranged.job.bytes.now bounds.lower.now bounds.upper.now }
-        ensures same_places { result.places.now ≡ places.now }
-        ensures same_bounds { result.bounds ≡ bounds.entry }
+        ensures same_job { result.tables.job ≡ places.now.arranged.job }
+        ensures same_order { result.tables.order.now ≡ places.now.arranged.order }
+        ensures same_weights { result.tables.weights.now ≡ places.now.weights }
+        ensures same_bounds { result.tables.bounds ≡ bounds.entry }
     {
         let mut driven = [Capacitance(0); 76];
         let fixed = place::drive_and_add(places, bounds, &mut driven);
         let mut upstream = [Resistance(0); 76];
-        let job = &places.arranged.job;
+        let arranged = &places.arranged;
+        let job = arranged.job;
         place::go_upstream(places, bounds, &mut upstream, job.places());
-        SearchTables {
-            places,
-            bounds,
+        SearchSetup {
+            tables: SearchTables {
+                job,
+                order: &arranged.order,
+                weights: &places.weights,
+                bounds,
+                upstream,
+                driven,
+                ups: lift(arranged, bounds),
+                skips: skip(&job, bounds),
+            },
             fixed,
-            upstream,
-            driven,
-            ups: lift(&places.arranged, bounds),
-            skips: skip(job, bounds),
         }
     }
 }

@@ -10,15 +10,13 @@ ghost use Rattle.positions.specs.Arranged.{AllInOrder, HangsAt, PlacesInOrder, P
 
 use job::Job;
 
-// A job with its driving order: the places by position, the position of each place, and by position the node that it hangs at.
+// A job with its driving order: the places by position, and by position the node that it hangs at.
 #[derive(Clone, Copy)]
 pub struct Arranged<'a> {
     pub job: Job<'a>,
     pub order: [usize; 76],
-    pub position: [usize; 76],
     pub hangs: [usize; 76],
     ghost in_order: { PlacesInOrder job.counts job.bytes.now order },
-    ghost positions: { PositionsOf job.counts job.bytes.now position },
     ghost nodes: { NodesOf job.counts job.bytes.now hangs },
 }
 
@@ -92,19 +90,19 @@ fn hangs_at(job: &Job<'_>, position: &[usize; 76], p: usize) -> usize
     position[job.counts.stages + node]
 }
 
-// The job with its driving order.
-pub fn arrange<'a>(job: Job<'a>) -> Arranged<'a>
-    ensures { result.job ≡ job.entry }
+// The job with its driving order; the position of each place is put into a lent table, as only what goes by place reads it.
+pub fn arrange<'a>(job: Job<'a>, position: &mut [usize; 76]) -> Arranged<'a>
+    ensures job { result.job ≡ job.entry }
+    ensures position { PositionsOf job.entry.counts job.entry.bytes.now position.new }
 {
-    let Tables { order, position } = put_in_order(&job);
+    let Tables {
+        order,
+        position: placed,
+    } = put_in_order(&job);
+    *position = placed;
     let mut hangs = [0; 76];
     for t in 0..job.places() {
-        hangs[t] = hangs_at(&job, &position, order[t]);
+        hangs[t] = hangs_at(&job, position, order[t]);
     }
-    Arranged {
-        job,
-        order,
-        position,
-        hangs,
-    }
+    Arranged { job, order, hangs }
 }

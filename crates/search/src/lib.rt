@@ -9,7 +9,7 @@ ghost use Rattle.free.specs.Searching.{Between, taken_between};
 ghost use Rattle.free.specs.ByTables.{IsBefore, HasMore, SearchedFrom};
 
 use envelope::Kept;
-use free::SearchTables;
+use free::{SearchSetup, SearchTables};
 use place::Places;
 use positions::Bounds;
 use quantity::{Capacitance, Delay};
@@ -36,7 +36,7 @@ fn search(
     // the next free place, as it is whatever the index here
     let then = tables.free_place(next);
     let further = tables.skips[next];
-    let job = &tables.places.arranged.job;
+    let job = &tables.job;
     let load = here.driven + gathered[left];
     let node = tables.ups[t];
     let others = gathered[node];
@@ -58,26 +58,27 @@ fn search(
 }
 
 // Takes every sizing between the bounds, where x is the lower bound.
-fn start(tables: &SearchTables<'_, '_, '_>, x: &mut [u8], kept: &mut Kept<'_>)
-    requires x_value { x.old ≡ tables.now.bounds.lower.now }
-    requires for_places { ForPlaces tables.now.places.now.arranged.job.counts kept.old.lean.now × ForPlaces tables.now.places.now.arranged.job.counts kept.old.wide.now }
+fn start(setup: &SearchSetup<'_, '_, '_>, x: &mut [u8], kept: &mut Kept<'_>)
+    requires x_value { x.old ≡ setup.now.tables.bounds.lower.now }
+    requires for_places { ForPlaces setup.now.tables.job.counts kept.old.lean.now × ForPlaces setup.now.tables.job.counts kept.old.wide.now }
     ensures same_space { SameSpace kept.old kept.new }
     ensures taken { found_of kept.new
-        ≡ taken_between tables.now.places.now.arranged.job.counts tables.now.places.now.arranged.job.bytes.now
-        tables.now.bounds.lower.now tables.now.bounds.upper.now (found_of kept.old) }
+        ≡ taken_between setup.now.tables.job.counts setup.now.tables.job.bytes.now
+        setup.now.tables.bounds.lower.now setup.now.tables.bounds.upper.now (found_of kept.old) }
 {
-    let left = tables.skips[tables.places.arranged.job.places()];
+    let tables = &setup.tables;
+    let left = tables.skips[tables.job.places()];
     if left == 0 {
-        kept.keep(x, tables.fixed);
+        kept.keep(x, setup.fixed);
         return;
     }
     // loads, by node
     let mut gathered = [Capacitance(0); 77];
     if tables.skips[left - 1] == 0 {
         let lowest = tables.bounds.lower[left - 1];
-        tables.take_from(left, lowest, tables.fixed, x, &gathered, kept);
+        tables.take_from(left, lowest, setup.fixed, x, &gathered, kept);
     } else {
-        search(tables, left, tables.fixed, x, &mut gathered, kept);
+        search(tables, left, setup.fixed, x, &mut gathered, kept);
     }
 }
 
@@ -91,5 +92,5 @@ pub fn between(places: &Places<'_>, bounds: Bounds<'_>, x: &mut [u8], kept: &mut
         ≡ taken_between places.now.arranged.job.counts places.now.arranged.job.bytes.now
         bounds.entry.lower.now bounds.entry.upper.now (found_of kept.old) }
 {
-    start(&SearchTables::new(places, bounds), x, kept);
+    start(&SearchSetup::new(places, bounds), x, kept);
 }

@@ -8,6 +8,7 @@ ghost use Rattle.net.specs.Checked.{SinkWeights};
 ghost use Rattle.net.specs.Questions.{refusal};
 ghost use Rattle.net.specs.Answers.{size_number, size_buffer};
 ghost use Rattle.net.specs.Promises.{Promises};
+ghost use Rattle.positions.specs.Arranged.{PositionsOf};
 ghost use Rattle.finish.specs.Parts.{BoundedBy, buffer_by};
 ghost use Rattle.size.specs.Numbers.{room_number, reply_number, reply_counts, unwritten_number, answer_number, AnswerCounts};
 ghost use Rattle.size.specs.declared.Unwritten.TheVariants.{Refused};
@@ -69,7 +70,13 @@ impl From<Failed> for Unwritten {
 }
 
 // Question 14, and the reply.
-fn answer(places: &Places<'_>, bounds: Bounds<'_>, reply: &mut [u8]) -> Reply
+fn answer(
+    places: &Places<'_>,
+    position: &[usize; 76],
+    bounds: Bounds<'_>,
+    reply: &mut [u8],
+) -> Reply
+    requires positions_of { PositionsOf places.now.arranged.job.counts places.now.arranged.job.bytes.now position.now }
     requires bounded_by { BoundedBy places.now.arranged.job.counts places.now.arranged.job.bytes.now bounds.lower.now bounds.upper.now }
     requires counts_in_bounds { 8 * suc (places_by places.now.arranged.job.counts) ≤ length reply.old }
     ensures number { reply_number result ≡ room_number (net_by places.now.arranged.job.counts places.now.arranged.job.bytes.now) }
@@ -79,10 +86,10 @@ fn answer(places: &Places<'_>, bounds: Bounds<'_>, reply: &mut [u8]) -> Reply
     let job = &places.arranged.job;
     let counts = job.counts;
     if !bounds::room_fits(bounds, job.places()) {
-        reply::bounds_only(reply, &places.arranged.position, bounds);
+        reply::bounds_only(reply, position, bounds);
         return Reply::BoundsOnly(counts);
     }
-    finish::finish(places, bounds, reply);
+    finish::finish(places, position, bounds, reply);
     Reply::Finished(counts)
 }
 
@@ -95,14 +102,15 @@ fn bound_and_answer(job: Job<'_>, sinks: &[u8; 64], reply: &mut [u8]) -> Reply
     ensures buffer { reply.new ≡ buffer_by job.entry.counts job.entry.bytes.now (reply_number result) reply.old }
 {
     let n = job.places();
-    let places = weights::weigh(positions::arrange(job), sinks);
+    let mut position = [0; 76];
+    let places = weights::weigh(positions::arrange(job, &mut position), sinks);
     let mut lower = [0u8; 76];
     let mut upper = [0u8; 76];
     let lower = &mut lower[..n];
     let upper = &mut upper[..n];
     bounds::bound(&places, lower, Side::Below);
     bounds::bound(&places, upper, Side::Above);
-    answer(&places, Bounds { lower, upper }, reply)
+    answer(&places, &position, Bounds { lower, upper }, reply)
 }
 
 // Writes the reply of a job into the buffer, finished or with the bounds alone; or answers the first question that fails, and leaves the buffer as it

@@ -9,9 +9,9 @@ finished-requires-clause-lower_in_bounds c = omega (arith, lower_long c.args.pla
 
 pub finished-requires-clause-lower_len_bound : goal.finished-requires-clause-lower_len_bound
 finished-requires-clause-lower_len_bound c =
-    let a = c.args.places.now.arranged in
-    let n = lower_long a.job.checked c.requires.bounded_by in
-    (omega (arith, n, a.job.checked.few_stages, a.job.checked.few_segments, a.job.checked.few_repeaters), positions-among a.job.checked c.args.bounds.lower.now a.positions n)
+    let k = c.args.places.now.arranged.job.checked in
+    let n = lower_long k c.requires.bounded_by in
+    (omega (arith, n, k.few_stages, k.few_segments, k.few_repeaters), positions-among k c.args.bounds.lower.now c.requires.positions_of n)
 
 pub finished-requires-clause-upper_len : goal.finished-requires-clause-upper_len
 finished-requires-clause-upper_len c =
@@ -28,5 +28,5 @@ finished-requires-clause-wide_len c =
 
 pub returns : goal.returns
 returns c =
-    let a = c.args.places.now.arranged in
-    buffer-0 a.job.checked a.positions c.requires.bounded_by c.args.reply.now _ _ _ _ c.least-delay.ensures c.finished.ensures
+    let k = c.args.places.now.arranged.job.checked in
+    buffer-0 k c.requires.positions_of c.requires.bounded_by c.args.reply.now _ _ _ _ c.least-delay.ensures c.finished.ensures

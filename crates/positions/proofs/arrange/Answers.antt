@@ -15,6 +15,8 @@ invariant_of-result c =
     let done = c.loop-t.invariant in
     record {
       in_order = record { long = put.long; held = put.ordered };
-      positions = all-placing c.args.job.checked put;
       nodes = record { long = done.long; held = λ t h. done.held t (omega arith) };
     }
+
+pub returns-clause-position : goal.returns-clause-position
+returns-clause-position c = all-placing c.args.job.checked c.put_in_order.ensures

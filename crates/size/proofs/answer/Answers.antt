@@ -24,7 +24,7 @@ bounds_only-requires c =
     record {
       lower_in_bounds = omega (arith, n, c.requires.counts_in_bounds);
       upper_len = upper_long k g ∙ sym n;
-      lower_len_bound = (omega (arith, n, c.places.ensures.1, c.places.ensures.0), positions-among k c.args.bounds.lower.now c.args.places.now.arranged.positions n);
+      lower_len_bound = (omega (arith, n, c.places.ensures.1, c.places.ensures.0), positions-among k c.args.bounds.lower.now c.requires.positions_of n);
     }
 
 pub returns-then-not-room_fits-clause-number : goal.returns-then-not-room_fits-clause-number
@@ -33,7 +33,7 @@ returns-then-not-room_fits-clause-number c =
 
 pub returns-then-not-room_fits-clause-buffer : goal.returns-then-not-room_fits-clause-buffer
 returns-then-not-room_fits-clause-buffer c =
-    buffer-14 c.args.places.now.arranged.job.checked c.args.places.now.arranged.positions c.requires.bounded_by c.args.reply.now _ c.bounds_only.ensures
+    buffer-14 c.args.places.now.arranged.job.checked c.requires.positions_of c.requires.bounded_by c.args.reply.now _ c.bounds_only.ensures
 
 pub returns-clause-number : goal.returns-clause-number
 returns-clause-number c =

@@ -1,6 +1,6 @@
 -- The tables are filled as the search asks.
 use Rattle.free.proofs.Placed.{between-long}
-use Rattle.free.proofs.prepared.SearchTables.new.Goals as goal
+use Rattle.free.proofs.prepared.SearchSetup.new.Goals as goal
 
 pub drive_and_add-fixed-requires : goal.drive_and_add-fixed-requires
 drive_and_add-fixed-requires c = record { bounds_of = record { lower = c.requires.lower_allowed; lower_long = (between-long c.requires).0; upper_long = (between-long c.requires).1 } }
