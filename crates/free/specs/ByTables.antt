@@ -19,26 +19,26 @@ module _ (s : SearchTables) where
   -- r is the place at position t with what its steps need.
   abbrev pub IsAt : ℕ → FreePlace → Type 0
   IsAt t r =
-      FreePlaceAt s.job.counts s.job.bytes.now s.order.now s.weights.now (resistances s.upstream) (loads s.driven) s.bounds.lower.now
+      FreePlaceAt s.job.counts s.job.bytes.now s.order.now s.weights.now (resistances s.upstream.now) (loads s.driven.now) s.bounds.lower.now
       s.bounds.upper.now t r
 
   -- The place before `left` is free, and the free places from `left` on are sized by x.
   abbrev pub IsBefore : (left added : ℕ) (x : List ℕ) (gathered : List Capacitance) (kept : Kept) → Type 0
   IsBefore left added x gathered kept =
-      FreeBefore net_of s.bounds.lower.now s.bounds.upper.now (resistances s.upstream) (loads s.driven) s.ups left added x (loads gathered) (found_of kept)
+      FreeBefore net_of s.bounds.lower.now s.bounds.upper.now (resistances s.upstream.now) (loads s.driven.now) s.ups.now left added x (loads gathered) (found_of kept)
 
   -- It is the last free place, or there are more before it.
   abbrev pub IsLast : ℕ → Type 0
-  IsLast left = at s.skips (left - 1) ≡ 0
+  IsLast left = at s.skips.now (left - 1) ≡ 0
 
   abbrev pub HasMore : ℕ → Type 0
-  HasMore left = 0 < at s.skips (left - 1)
+  HasMore left = 0 < at s.skips.now (left - 1)
 
   -- At the place before `left` the indices before k are passed over.
   abbrev pub PassedAt : (left added : ℕ) (gathered : List Capacitance) (least k : ℕ) → Type 0
   PassedAt left added gathered least k =
-      PassedTo net_of (at s.weights.now (left - 1)) (at (resistances s.upstream) (left - 1)) (left - 1)
-      (at (loads s.driven) (left - 1) + at (loads gathered) (left - 1 + 1)) added least (at s.bounds.lower.now (left - 1)) (at s.bounds.upper.now (left - 1)) k
+      PassedTo net_of (at s.weights.now (left - 1)) (at (resistances s.upstream.now) (left - 1)) (left - 1)
+      (at (loads s.driven.now) (left - 1) + at (loads gathered) (left - 1 + 1)) added least (at s.bounds.lower.now (left - 1)) (at s.bounds.upper.now (left - 1)) k
 
   -- Every sizing between the bounds that has the indices of x from `left` on was taken.
   abbrev pub SearchedFrom : (left : ℕ) (x : List ℕ) (gathered : List Capacitance) (before : Kept) (x' : List ℕ) (gathered' : List Capacitance) (after : Kept) → Type 0

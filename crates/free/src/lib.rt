@@ -18,7 +18,7 @@ use envelope::Kept;
 use job::{Job, Range};
 use place::Spot;
 use positions::Bounds;
-pub use prepared::{SearchSetup, SearchTables, lift, skip};
+pub use prepared::{SearchTables, lift, skip};
 use quantity::{Capacitance, Delay, Resistance};
 
 // A free place as the search tries its indices: what its steps need, the load of the held places that it drives, and the indices that the bounds
@@ -82,7 +82,7 @@ impl FreePlace {
     }
 }
 
-impl SearchTables<'_, '_, '_> {
+impl SearchTables<'_> {
     // The place at position t with what its steps need, read once for all of them.
     pub fn free_place(&self, t: usize) -> FreePlace
         requires { t < places_by self.now.job.counts }
@@ -92,8 +92,8 @@ impl SearchTables<'_, '_, '_> {
             &self.job,
             self.order,
             self.weights,
-            &self.upstream,
-            &self.driven,
+            self.upstream,
+            self.driven,
             self.bounds,
             t,
         )

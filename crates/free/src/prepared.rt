@@ -30,23 +30,21 @@ fn arrival(arranged: &Arranged<'_>, bounds: Bounds<'_>, ups: &[usize; 76], node:
 }
 
 // The nodes at which the loads of the positions arrive.
-pub fn lift(arranged: &Arranged<'_>, bounds: Bounds<'_>) -> [usize; 76]
+pub fn lift(arranged: &Arranged<'_>, bounds: Bounds<'_>, ups: &mut [usize; 76])
     requires { BothLong arranged.now.job.counts bounds.lower.now bounds.upper.now }
-    ensures { Lifted arranged.now.job.counts arranged.now.job.bytes.now bounds.entry.lower.now bounds.entry.upper.now result }
+    ensures { Lifted arranged.now.job.counts arranged.now.job.bytes.now bounds.entry.lower.now bounds.entry.upper.now ups.new }
 {
-    let mut ups = [0; 76];
     for t in 0..arranged.job.places() {
-        ups[t] = arrival(arranged, bounds, &ups, arranged.hangs[t]);
+        ups[t] = arrival(arranged, bounds, ups, arranged.hangs[t]);
     }
-    ups
 }
 
 // Of how many places the last one is free, up to each place.
-pub fn skip(job: &Job<'_>, bounds: Bounds<'_>) -> [usize; 77]
+pub fn skip(job: &Job<'_>, bounds: Bounds<'_>, skips: &mut [usize; 77])
     requires { BothLong job.now.counts bounds.lower.now bounds.upper.now }
-    ensures { Skipped job.now.counts bounds.entry.lower.now bounds.entry.upper.now result }
+    ensures { Skipped job.now.counts bounds.entry.lower.now bounds.entry.upper.now skips.new }
 {
-    let mut skips = [0; 77];
+    skips[0] = 0;
     for t in 0..job.places() {
         let last = if bounds.lower[t] < bounds.upper[t] {
             t + 1
@@ -55,59 +53,19 @@ pub fn skip(job: &Job<'_>, bounds: Bounds<'_>) -> [usize; 77]
         };
         skips[t + 1] = last;
     }
-    skips
 }
 
 // The places and the bounds of a search, and by position the weighted resistances upstream, the loads that the held places make each drive, the nodes
-// at which loads arrive, and of how many places the last one is free.
+// at which loads arrive, and of how many places the last one is free. The tables are lent, because tables that are returned are copied.
 #[derive(Clone, Copy)]
-pub struct SearchTables<'p, 'a, 'b> {
-    pub job: Job<'a>,
-    pub order: &'p [usize; 76],
-    pub weights: &'p [u64; 76],
-    pub bounds: Bounds<'b>,
-    pub upstream: [Resistance; 76],
-    pub driven: [Capacitance; 76],
-    pub ups: [usize; 76],
-    pub skips: [usize; 77],
-    ghost prepared: { Prepared job.counts job.bytes.now order.now weights.now (resistances upstream) (loads driven) ups skips bounds.lower.now bounds.upper.now },
-}
-
-// What a search between two bounds begins with: its tables, and what the held places add to the delay.
-#[derive(Clone, Copy)]
-pub struct SearchSetup<'p, 'a, 'b> {
-    pub tables: SearchTables<'p, 'a, 'b>,
-    pub fixed: Delay,
-    ghost held_add: { fixed.0 ≡ fixed_delay tables.job.counts tables.job.bytes.now tables.bounds.lower.now tables.bounds.upper.now tables.driven },
-}
-
-impl<'p, 'a, 'b> SearchSetup<'p, 'a, 'b> {
-    // What a search of the places between two bounds begins with.
-    pub fn new(places: &'p Places<'a>, bounds: Bounds<'b>) -> SearchSetup<'p, 'a, 'b>
-        requires { Between places.now.arranged.job.counts places.now.arranged.job.bytes.now bounds.lower.now bounds.upper.now }
-        ensures same_job { result.tables.job ≡ places.now.arranged.job }
-        ensures same_order { result.tables.order.now ≡ places.now.arranged.order }
-        ensures same_weights { result.tables.weights.now ≡ places.now.weights }
-        ensures same_bounds { result.tables.bounds ≡ bounds.entry }
-    {
-        let mut driven = [Capacitance(0); 76];
-        let fixed = place::drive_and_add(places, bounds, &mut driven);
-        let mut upstream = [Resistance(0); 76];
-        let arranged = &places.arranged;
-        let job = arranged.job;
-        place::go_upstream(places, bounds, &mut upstream, job.places());
-        SearchSetup {
-            tables: SearchTables {
-                job,
-                order: &arranged.order,
-                weights: &places.weights,
-                bounds,
-                upstream,
-                driven,
-                ups: lift(arranged, bounds),
-                skips: skip(&job, bounds),
-            },
-            fixed,
-        }
-    }
+pub struct SearchTables<'t> {
+    pub job: Job<'t>,
+    pub order: &'t [usize; 76],
+    pub weights: &'t [u64; 76],
+    pub bounds: Bounds<'t>,
+    pub upstream: &'t [Resistance; 76],
+    pub driven: &'t [Capacitance; 76],
+    pub ups: &'t [usize; 76],
+    pub skips: &'t [usize; 77],
+    ghost prepared: { Prepared job.counts job.bytes.now order.now weights.now (resistances upstream.now) (loads driven.now) ups.now skips.now bounds.lower.now bounds.upper.now },
 }

@@ -182,11 +182,11 @@ step_same c b w u t l k p r e s = let z = rw e at s in record { delay = z.delay;
 pub place_at_lem : {c : Counts} {b orders : List ℕ} → Checked c b → PlacesInOrder c b orders → (t : ℕ) → t < places_by c → at orders t < places_by c
 place_at_lem {c} {b} k o t h = rw (o.held t h) ((numbering (net_by c b) (ordered k).sites (ordered k).rising).inside t h)
 
-pub place_few : (a : Arranged) (t : ℕ) → t < places_by a.job.counts → at a.order t < places_by a.job.counts
+pub place_few : (a : Arranged) (t : ℕ) → t < places_by a.job.counts → at a.order.now t < places_by a.job.counts
 place_few a t h = place_at_lem a.job.checked a.in_order t h
 
 -- Its node is one of those before it.
-pub node_few : (a : Arranged) (t : ℕ) → t < places_by a.job.counts → at a.hangs t < 77
+pub node_few : (a : Arranged) (t : ℕ) → t < places_by a.job.counts → at a.hangs.now t < 77
 node_few a t h = omega (arith, a.nodes.held t h, (placed a.job.checked).falls t h, (in_limits a.job.checked).few)
 
 -- So an allowed sizing has one of its indices there.

@@ -24,11 +24,11 @@ net_of a = driving_by a.job.counts a.job.bytes.now
 pub record Turn (a : Arranged) (bounds : Bounds) (gathered : List Capacitance) (t v : ℕ) : Type 0 where
   pub load : v ≡ (net_of a).sink t + at (loads gathered) (suc t)
   pub small : v ≤ 13700000
-  pub place : at a.order t < places_by a.job.counts
-  pub index : at bounds.lower.now t ≤ (net_by a.job.counts a.job.bytes.now).highest (at a.order t)
-  pub node : at a.hangs t ≡ (net_of a).hangs_at t
-  pub gathers : (get_or gathered (at a.hangs t) (record { 0 = 0 })).0 ≤ 1048800000
-  pub shows : load_at (placed_by a.job.counts a.job.bytes.now) (at a.order t) (at bounds.lower.now t) v ≤ 13800000
+  pub place : at a.order.now t < places_by a.job.counts
+  pub index : at bounds.lower.now t ≤ (net_by a.job.counts a.job.bytes.now).highest (at a.order.now t)
+  pub node : at a.hangs.now t ≡ (net_of a).hangs_at t
+  pub gathers : (get_or gathered (at a.hangs.now t) (record { 0 = 0 })).0 ≤ 1048800000
+  pub shows : load_at (placed_by a.job.counts a.job.bytes.now) (at a.order.now t) (at bounds.lower.now t) v ≤ 13800000
 
 module _ (a : Arranged) {bounds : Bounds} (of : BoundsOf a.job.counts a.job.bytes.now bounds) {n : ℕ} (driven gathered : List Capacitance) where
   module _ (i : Driven (net_of a) bounds.lower.now bounds.upper.now n (loads driven) (loads gathered)) (some : 0 < n) (few : n ≤ places_by a.job.counts) where
@@ -36,7 +36,7 @@ module _ (a : Arranged) {bounds : Bounds} (of : BoundsOf a.job.counts a.job.byte
     passed = let e : n ≡ suc (n - 1) = omega arith in subst (λ (m : ℕ). Driven (net_of a) bounds.lower.now bounds.upper.now m (loads driven) (loads gathered)) e i
 
     -- where the sink s and the load at the node behind the position are v
-    pub turn : {s v : ℕ} → s ≡ (placed_by a.job.counts a.job.bytes.now).sink (at a.order (n - 1)) → v ≡ s + (get_or gathered (n - 1 + 1) (record { 0 = 0 })).0 → Turn a bounds gathered (n - 1) v
+    pub turn : {s v : ℕ} → s ≡ (placed_by a.job.counts a.job.bytes.now).sink (at a.order.now (n - 1)) → v ≡ s + (get_or gathered (n - 1 + 1) (record { 0 = 0 })).0 → Turn a bounds gathered (n - 1) v
     turn {s} {v} e f =
         let h : n - 1 < places_by a.job.counts = omega arith in
         let o = a.in_order.held (n - 1) h in
@@ -52,7 +52,7 @@ module _ (a : Arranged) {bounds : Bounds} (of : BoundsOf a.job.counts a.job.byte
           place = place_at_lem a.job.checked a.in_order (n - 1) h;
           index = index-at bounds.lower.now a.in_order of.lower (n - 1) h;
           node = node;
-          gathers = omega (arith, loads-at gathered (at a.hangs (n - 1)), gathers-small (net_of a) (placed a.job.checked) (in_limits a.job.checked) bounds.lower.now bounds.upper.now of.lower (n - 1) h (loads driven) (loads gathered) passed (at a.hangs (n - 1)) (omega arith));
+          gathers = omega (arith, loads-at gathered (at a.hangs.now (n - 1)), gathers-small (net_of a) (placed a.job.checked) (in_limits a.job.checked) bounds.lower.now bounds.upper.now of.lower (n - 1) h (loads driven) (loads gathered) passed (at a.hangs.now (n - 1)) (omega arith));
           shows = rw o (shown_by a.job.checked (n - 1) (at bounds.lower.now (n - 1)) v h high small);
         }
 
@@ -64,13 +64,13 @@ module _ (a : Arranged) {bounds : Bounds} (of : BoundsOf a.job.counts a.job.byte
 
     -- after that of a held one, which shows the load s
     pub turn-held : {v s u : Capacitance} → Turn a bounds gathered (n - 1) v.0 → at bounds.upper.now (n - 1) ≤ at bounds.lower.now (n - 1)
-        → s.0 ≡ load_at (placed_by a.job.counts a.job.bytes.now) (at a.order (n - 1)) (at bounds.lower.now (n - 1)) v.0 → u.0 ≡ (get_or gathered (at a.hangs (n - 1)) (record { 0 = 0 })).0 + s.0
-        → Driven (net_of a) bounds.lower.now bounds.upper.now (n - 1) (loads (set driven (n - 1) v)) (loads (set gathered (at a.hangs (n - 1)) u))
+        → s.0 ≡ load_at (placed_by a.job.counts a.job.bytes.now) (at a.order.now (n - 1)) (at bounds.lower.now (n - 1)) v.0 → u.0 ≡ (get_or gathered (at a.hangs.now (n - 1)) (record { 0 = 0 })).0 + s.0
+        → Driven (net_of a) bounds.lower.now bounds.upper.now (n - 1) (loads (set driven (n - 1) v)) (loads (set gathered (at a.hangs.now (n - 1)) u))
     turn-held {v} {s} {u} t h f g =
-        rw (loads-set driven (n - 1) v, loads-set gathered (at a.hangs (n - 1)) u, t.node)
+        rw (loads-set driven (n - 1) v, loads-set gathered (at a.hangs.now (n - 1)) u, t.node)
         (driving-held (net_of a) (placed a.job.checked) (in_limits a.job.checked) bounds.lower.now bounds.upper.now of.lower (n - 1) (omega arith) (loads driven) (loads gathered) passed v.0 t.load s.0 u.0 h
         (f ∙ shown-same a.job.checked (n - 1) _ _ _ (a.in_order.held (n - 1) (omega arith)))
-        (g ∙ ap (λ (w : ℕ). w + s.0) (loads-at gathered (at a.hangs (n - 1)) ∙ ap (at (loads gathered)) t.node)))
+        (g ∙ ap (λ (w : ℕ). w + s.0) (loads-at gathered (at a.hangs.now (n - 1)) ∙ ap (at (loads gathered)) t.node)))
 
   -- The same with what the positions add.
   module _ {sum : ℕ} (i : Added (net_of a) bounds.lower.now bounds.upper.now n (loads driven) (loads gathered) sum) (some : 0 < n) (few : n ≤ places_by a.job.counts) where
@@ -84,7 +84,7 @@ module _ (a : Arranged) {bounds : Bounds} (of : BoundsOf a.job.counts a.job.byte
 
     -- a held position of the weight w adds d
     module _ {v : Capacitance} (t : Turn a bounds gathered (n - 1) v.0) (h : at bounds.upper.now (n - 1) ≤ at bounds.lower.now (n - 1)) {w d : ℕ} (weighs : w ≡ (net_of a).weight (n - 1))
-        (adds : d ≡ cost (placed_by a.job.counts a.job.bytes.now) w 0 (at a.order (n - 1)) v.0 (at bounds.lower.now (n - 1))) where
+        (adds : d ≡ cost (placed_by a.job.counts a.job.bytes.now) w 0 (at a.order.now (n - 1)) v.0 (at bounds.lower.now (n - 1))) where
       own : d ≡ (net_of a).weight (n - 1) * delay_at (net_of a) (n - 1) (at bounds.lower.now (n - 1)) v.0
       own =
           let e = adds ∙ cost-same a.job.counts a.job.bytes.now w 0 (n - 1) v.0 (at bounds.lower.now (n - 1)) _ (a.in_order.held (n - 1) (omega arith)) in
@@ -95,12 +95,12 @@ module _ (a : Arranged) {bounds : Bounds} (of : BoundsOf a.job.counts a.job.byte
       adding-fits =
           omega (arith, own, added-fits (net_of a) (placed a.job.checked) (in_limits a.job.checked) bounds.lower.now bounds.upper.now of.lower (n - 1) (omega arith) (loads driven) (loads gathered) sum passed-adding v.0 t.load h)
 
-      pub adding-held : {s u : Capacitance} → s.0 ≡ load_at (placed_by a.job.counts a.job.bytes.now) (at a.order (n - 1)) (at bounds.lower.now (n - 1)) v.0
-          → u.0 ≡ (get_or gathered (at a.hangs (n - 1)) (record { 0 = 0 })).0 + s.0 → {more : ℕ} → more ≡ sum + d
-          → Added (net_of a) bounds.lower.now bounds.upper.now (n - 1) (loads (set driven (n - 1) v)) (loads (set gathered (at a.hangs (n - 1)) u)) more
+      pub adding-held : {s u : Capacitance} → s.0 ≡ load_at (placed_by a.job.counts a.job.bytes.now) (at a.order.now (n - 1)) (at bounds.lower.now (n - 1)) v.0
+          → u.0 ≡ (get_or gathered (at a.hangs.now (n - 1)) (record { 0 = 0 })).0 + s.0 → {more : ℕ} → more ≡ sum + d
+          → Added (net_of a) bounds.lower.now bounds.upper.now (n - 1) (loads (set driven (n - 1) v)) (loads (set gathered (at a.hangs.now (n - 1)) u)) more
       adding-held {s} {u} f g {more} k =
-          rw (loads-set driven (n - 1) v, loads-set gathered (at a.hangs (n - 1)) u, t.node)
+          rw (loads-set driven (n - 1) v, loads-set gathered (at a.hangs.now (n - 1)) u, t.node)
           (added-held (net_of a) (placed a.job.checked) (in_limits a.job.checked) bounds.lower.now bounds.upper.now of.lower (n - 1) (omega arith) (loads driven) (loads gathered) sum passed-adding v.0 t.load s.0 u.0 more h
           (f ∙ shown-same a.job.checked (n - 1) _ _ _ (a.in_order.held (n - 1) (omega arith)))
-          (g ∙ ap (λ (x : ℕ). x + s.0) (loads-at gathered (at a.hangs (n - 1)) ∙ ap (at (loads gathered)) t.node))
+          (g ∙ ap (λ (x : ℕ). x + s.0) (loads-at gathered (at a.hangs.now (n - 1)) ∙ ap (at (loads gathered)) t.node))
           (k ∙ ap (λ (x : ℕ). sum + x) own))

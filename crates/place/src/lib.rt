@@ -20,8 +20,8 @@ use quantity::{Capacitance, Delay, Resistance};
 #[derive(Clone, Copy)]
 pub struct Places<'a> {
     pub arranged: Arranged<'a>,
-    pub weights: [u64; 76],
-    ghost weighed: { Weighed arranged.job.counts arranged.job.bytes.now weights },
+    pub weights: &'a [u64; 76],
+    ghost weighed: { Weighed arranged.job.counts arranged.job.bytes.now weights.now },
 }
 
 // What a place adds at one of its indices: its part of the scaled delay with what its load costs upstream, and the load that it shows.

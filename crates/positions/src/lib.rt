@@ -14,10 +14,10 @@ use job::Job;
 #[derive(Clone, Copy)]
 pub struct Arranged<'a> {
     pub job: Job<'a>,
-    pub order: [usize; 76],
-    pub hangs: [usize; 76],
-    ghost in_order: { PlacesInOrder job.counts job.bytes.now order },
-    ghost nodes: { NodesOf job.counts job.bytes.now hangs },
+    pub order: &'a [usize; 76],
+    pub hangs: &'a [usize; 76],
+    ghost in_order: { PlacesInOrder job.counts job.bytes.now order.now },
+    ghost nodes: { NodesOf job.counts job.bytes.now hangs.now },
 }
 
 // Two sizings by position, that free places are sized between.
@@ -27,10 +27,11 @@ pub struct Bounds<'b> {
     pub upper: &'b [u8],
 }
 
-// The places by position and the position of each place, while they are put in order.
-struct Tables {
-    order: [usize; 76],
-    position: [usize; 76],
+// The places by position, and the position of each place: tables for `arrange` to fill, lent because tables that are returned are copied.
+#[derive(Clone, Copy)]
+pub struct Tables {
+    pub order: [usize; 76],
+    pub position: [usize; 76],
 }
 
 impl Tables {
@@ -57,13 +58,9 @@ impl Tables {
 }
 
 // Puts all places in order: run after run of those between two repeaters.
-fn put_in_order(job: &Job<'_>) -> Tables
-    ensures { AllInOrder job.now.counts job.now.bytes.now result.order result.position }
+fn put_in_order(job: &Job<'_>, tables: &mut Tables)
+    ensures { AllInOrder job.now.counts job.now.bytes.now tables.new.order tables.new.position }
 {
-    let mut tables = Tables {
-        order: [0; 76],
-        position: [0; 76],
-    };
     let places = job.counts.stages + job.counts.segments;
     let mut start = 0;
     for r in 0..job.counts.repeaters {
@@ -73,7 +70,6 @@ fn put_in_order(job: &Job<'_>) -> Tables
         start = end;
     }
     tables.put_run(job, start, places, job.counts.repeaters);
-    tables
 }
 
 // The node that place p hangs at: a segment at the position of the segment whose number is its parent byte, because the branches at a node hang
@@ -90,19 +86,15 @@ fn hangs_at(job: &Job<'_>, position: &[usize; 76], p: usize) -> usize
     position[job.counts.stages + node]
 }
 
-// The job with its driving order; the position of each place is put into a lent table, as only what goes by place reads it.
-pub fn arrange<'a>(job: Job<'a>, position: &mut [usize; 76]) -> Arranged<'a>
-    ensures job { result.job ≡ job.entry }
-    ensures position { PositionsOf job.entry.counts job.entry.bytes.now position.new }
+// Fills the tables of the driving order, whatever they held before: the places by position and the position of each place, and by position the node
+// that it hangs at.
+pub fn arrange(job: &Job<'_>, tables: &mut Tables, hangs: &mut [usize; 76])
+    ensures order { PlacesInOrder job.now.counts job.now.bytes.now tables.new.order }
+    ensures position { PositionsOf job.now.counts job.now.bytes.now tables.new.position }
+    ensures hangs { NodesOf job.now.counts job.now.bytes.now hangs.new }
 {
-    let Tables {
-        order,
-        position: placed,
-    } = put_in_order(&job);
-    *position = placed;
-    let mut hangs = [0; 76];
+    put_in_order(job, tables);
     for t in 0..job.places() {
-        hangs[t] = hangs_at(&job, position, order[t]);
+        hangs[t] = hangs_at(job, &tables.position, tables.order[t]);
     }
-    Arranged { job, order, hangs }
 }

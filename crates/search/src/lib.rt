@@ -4,20 +4,21 @@
 
 ghost use Rattle.std.specs.Prelude.{◌≡◌};
 ghost use Rattle.net.specs.Checked.{ForPlaces};
+ghost use Rattle.place.specs.ByCounts.{fixed_delay};
 ghost use Rattle.envelope.specs.Kept.{found_of, SameSpace};
 ghost use Rattle.free.specs.Searching.{Between, taken_between};
 ghost use Rattle.free.specs.ByTables.{IsBefore, HasMore, SearchedFrom};
 
 use envelope::Kept;
-use free::{SearchSetup, SearchTables};
+use free::SearchTables;
 use place::Places;
 use positions::Bounds;
-use quantity::{Capacitance, Delay};
+use quantity::{Capacitance, Delay, Resistance};
 
 // Takes every sizing that has the indices of x from `left` on and lies between the bounds before it, where the place before `left` is free and
 // not the last one that is. The loads of the free places from `left` on, each at the node where it arrives, and the delay so far are carried along.
 fn search(
-    tables: &SearchTables<'_, '_, '_>,
+    tables: &SearchTables<'_>,
     left: usize,
     added: Delay,
     x: &mut [u8],
@@ -57,28 +58,28 @@ fn search(
     gathered[node] = others;
 }
 
-// Takes every sizing between the bounds, where x is the lower bound.
-fn start(setup: &SearchSetup<'_, '_, '_>, x: &mut [u8], kept: &mut Kept<'_>)
-    requires x_value { x.old ≡ setup.now.tables.bounds.lower.now }
-    requires for_places { ForPlaces setup.now.tables.job.counts kept.old.lean.now × ForPlaces setup.now.tables.job.counts kept.old.wide.now }
+// Takes every sizing between the bounds, where x is the lower bound and the held places add `fixed` to the delay.
+fn start(tables: &SearchTables<'_>, fixed: Delay, x: &mut [u8], kept: &mut Kept<'_>)
+    requires held_add { fixed.0 ≡ fixed_delay tables.now.job.counts tables.now.job.bytes.now tables.now.bounds.lower.now tables.now.bounds.upper.now tables.now.driven.now }
+    requires x_value { x.old ≡ tables.now.bounds.lower.now }
+    requires for_places { ForPlaces tables.now.job.counts kept.old.lean.now × ForPlaces tables.now.job.counts kept.old.wide.now }
     ensures same_space { SameSpace kept.old kept.new }
     ensures taken { found_of kept.new
-        ≡ taken_between setup.now.tables.job.counts setup.now.tables.job.bytes.now
-        setup.now.tables.bounds.lower.now setup.now.tables.bounds.upper.now (found_of kept.old) }
+        ≡ taken_between tables.now.job.counts tables.now.job.bytes.now
+        tables.now.bounds.lower.now tables.now.bounds.upper.now (found_of kept.old) }
 {
-    let tables = &setup.tables;
     let left = tables.skips[tables.job.places()];
     if left == 0 {
-        kept.keep(x, setup.fixed);
+        kept.keep(x, fixed);
         return;
     }
     // loads, by node
     let mut gathered = [Capacitance(0); 77];
     if tables.skips[left - 1] == 0 {
         let lowest = tables.bounds.lower[left - 1];
-        tables.take_from(left, lowest, setup.fixed, x, &gathered, kept);
+        tables.take_from(left, lowest, fixed, x, &gathered, kept);
     } else {
-        search(tables, left, setup.fixed, x, &mut gathered, kept);
+        search(tables, left, fixed, x, &mut gathered, kept);
     }
 }
 
@@ -92,5 +93,24 @@ pub fn between(places: &Places<'_>, bounds: Bounds<'_>, x: &mut [u8], kept: &mut
         ≡ taken_between places.now.arranged.job.counts places.now.arranged.job.bytes.now
         bounds.entry.lower.now bounds.entry.upper.now (found_of kept.old) }
 {
-    start(&SearchSetup::new(places, bounds), x, kept);
+    let arranged = &places.arranged;
+    let mut driven = [Capacitance(0); 76];
+    let fixed = place::drive_and_add(places, bounds, &mut driven);
+    let mut upstream = [Resistance(0); 76];
+    place::go_upstream(places, bounds, &mut upstream, arranged.job.places());
+    let mut ups = [0; 76];
+    free::lift(arranged, bounds, &mut ups);
+    let mut skips = [0; 77];
+    free::skip(&arranged.job, bounds, &mut skips);
+    let tables = SearchTables {
+        job: arranged.job,
+        order: arranged.order,
+        weights: places.weights,
+        bounds,
+        upstream: &upstream,
+        driven: &driven,
+        ups: &ups,
+        skips: &skips,
+    };
+    start(&tables, fixed, x, kept);
 }

@@ -18,7 +18,7 @@ use lattice::Side;
 use links::Links;
 use net::Counts;
 use place::Places;
-use positions::Bounds;
+use positions::{Arranged, Bounds, Tables};
 use questions::Failed;
 use refusal::Refusal;
 
@@ -102,15 +102,30 @@ fn bound_and_answer(job: Job<'_>, sinks: &[u8; 64], reply: &mut [u8]) -> Reply
     ensures buffer { reply.new ≡ buffer_by job.entry.counts job.entry.bytes.now (reply_number result) reply.old }
 {
     let n = job.places();
-    let mut position = [0; 76];
-    let places = weights::weigh(positions::arrange(job, &mut position), sinks);
+    let mut tables = Tables {
+        order: [0; 76],
+        position: [0; 76],
+    };
+    let mut hangs = [0; 76];
+    positions::arrange(&job, &mut tables, &mut hangs);
+    let arranged = Arranged {
+        job,
+        order: &tables.order,
+        hangs: &hangs,
+    };
+    let mut weights = [0; 76];
+    weights::weigh(&arranged, sinks, &mut weights);
+    let places = Places {
+        arranged,
+        weights: &weights,
+    };
     let mut lower = [0u8; 76];
     let mut upper = [0u8; 76];
     let lower = &mut lower[..n];
     let upper = &mut upper[..n];
     bounds::bound(&places, lower, Side::Below);
     bounds::bound(&places, upper, Side::Above);
-    answer(&places, &position, Bounds { lower, upper }, reply)
+    answer(&places, &tables.position, Bounds { lower, upper }, reply)
 }
 
 // Writes the reply of a job into the buffer, finished or with the bounds alone; or answers the first question that fails, and leaves the buffer as it

@@ -87,7 +87,7 @@ module _ {c : Counts} {b : List ℕ} (k : Checked c b) where
 
 -- One turn of the loop, at the position n - 1 of arranged places, where n positions are left before it: w is the weight of the place's sink.
 module _ (a : Arranged) {n : ℕ} {weights gathered : List ℕ} (i : Weighing a.job.counts a.job.bytes.now n weights gathered) (some : 0 < n) (few : n ≤ places_by a.job.counts)
-    {w : ℕ} (e : w ≡ sink_weight_at a.job.counts a.job.bytes.now (at a.order (n - 1))) where
+    {w : ℕ} (e : w ≡ sink_weight_at a.job.counts a.job.bytes.now (at a.order.now (n - 1))) where
   passed : Weighing a.job.counts a.job.bytes.now (suc (n - 1)) weights gathered
   passed = let z : n ≡ suc (n - 1) = omega arith in subst (λ (m : ℕ). Weighing a.job.counts a.job.bytes.now m weights gathered) z i
 
@@ -99,14 +99,14 @@ module _ (a : Arranged) {n : ℕ} {weights gathered : List ℕ} (i : Weighing a.
       let z : n - 1 + 1 ≡ suc (n - 1) = omega arith in
       rw z (driven-few a.job.checked (n - 1) (omega arith) weights gathered passed w by_position)
 
-  pub turn-gathered : at gathered (at a.hangs (n - 1)) ≤ 1259700
+  pub turn-gathered : at gathered (at a.hangs.now (n - 1)) ≤ 1259700
   turn-gathered =
       let node = a.nodes.held (n - 1) (omega arith) in
       let falls = (placed a.job.checked).falls (n - 1) (omega arith) in
-      gathered-few a.job.checked (n - 1) (omega arith) weights gathered passed (at a.hangs (n - 1)) (omega arith)
+      gathered-few a.job.checked (n - 1) (omega arith) weights gathered passed (at a.hangs.now (n - 1)) (omega arith)
 
-  pub turn-after : {v : ℕ} → v ≡ doubled a.job.counts (at a.order (n - 1)) (w + at gathered (n - 1 + 1))
-      → Weighing a.job.counts a.job.bytes.now (n - 1) (set weights (n - 1) v) (set gathered (at a.hangs (n - 1)) (at gathered (at a.hangs (n - 1)) + (w + at gathered (n - 1 + 1))))
+  pub turn-after : {v : ℕ} → v ≡ doubled a.job.counts (at a.order.now (n - 1)) (w + at gathered (n - 1 + 1))
+      → Weighing a.job.counts a.job.bytes.now (n - 1) (set weights (n - 1) v) (set gathered (at a.hangs.now (n - 1)) (at gathered (at a.hangs.now (n - 1)) + (w + at gathered (n - 1 + 1))))
   turn-after f =
       let z : n - 1 + 1 ≡ suc (n - 1) = omega arith in
       let node = a.nodes.held (n - 1) (omega arith) in

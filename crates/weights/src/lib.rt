@@ -4,10 +4,10 @@
 ghost use Rattle.std.specs.Prelude.{◌≡◌, ◌<◌, ◌≤◌};
 ghost use Rattle.net.specs.Job.{places_by};
 ghost use Rattle.net.specs.Checked.{SinkWeights};
+ghost use Rattle.place.specs.ByCounts.{Weighed};
 ghost use Rattle.weights.specs.Sinks.{SinkWeight, doubled};
 
 use job::Job;
-use place::Places;
 use positions::Arranged;
 
 // The weight of the sink at the far end of place p; `sinks` has the weights of the segments' sinks.
@@ -33,13 +33,12 @@ fn own_weight(job: &Job<'_>, p: usize, driven: u64) -> u64
     driven
 }
 
-// The places with their weights, found in one pass from the last position to the first.
+// The weights of the places, found in one pass from the last position to the first, in a lent table, whatever it held before.
 #[tactic(auto, using(place::proofs::Steps::place_few, place::proofs::Steps::node_few))]
-pub fn weigh<'a>(arranged: Arranged<'a>, sinks: &[u8; 64]) -> Places<'a>
-    requires { SinkWeights arranged.job.counts arranged.job.bytes.now sinks.now }
-    ensures { result.arranged ≡ arranged.entry }
+pub fn weigh(arranged: &Arranged<'_>, sinks: &[u8; 64], weights: &mut [u64; 76])
+    requires { SinkWeights arranged.now.job.counts arranged.now.job.bytes.now sinks.now }
+    ensures { Weighed arranged.now.job.counts arranged.now.job.bytes.now weights.new }
 {
-    let mut weights = [0; 76];
     // by node
     let mut gathered = [0; 77];
     for t in (0..arranged.job.places()).rev() {
@@ -48,5 +47,4 @@ pub fn weigh<'a>(arranged: Arranged<'a>, sinks: &[u8; 64]) -> Places<'a>
         weights[t] = own_weight(&arranged.job, p, driven);
         gathered[arranged.hangs[t]] += driven;
     }
-    Places { arranged, weights }
 }

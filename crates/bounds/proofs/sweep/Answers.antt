@@ -26,7 +26,7 @@ settle-ends-requires c =
     let l = c.loop-t in
     let places = c.args.places.now in
     let job = places.arranged.job in
-    let asks = settle-asks (driving_by job.counts job.bytes.now) (placed job.checked) (side_of c.args.side) c.args.x.now l.t (omega arith) l.x (resistances l.upstream) l.changed l.invariant _ c.upstream_at-before.ensures (in_limits job.checked) places.weights (loads c.drive.new.driven) places.weighed c.drive.ensures in
+    let asks = settle-asks (driving_by job.counts job.bytes.now) (placed job.checked) (side_of c.args.side) c.args.x.now l.t (omega arith) l.x (resistances l.upstream) l.changed l.invariant _ c.upstream_at-before.ensures (in_limits job.checked) places.weights.now (loads c.drive.new.driven) places.weighed c.drive.ensures in
     (place_few places.arranged l.t (omega arith), asks.0, asks.1, rw (loads-at c.drive.new.driven l.t) asks.2)
 
 pub bounds-x-t : goal.bounds-x-t
@@ -46,6 +46,6 @@ loop-t-preserved c =
     let job = places.arranged.job in
     let net = driving_by job.counts job.bytes.now in
     let settled = settled-by-place job.counts job.bytes.now _ _ l.t _ _ _ (places.arranged.in_order.held l.t (omega arith)) c.settle-ends.ensures in
-    let finds = settle-finds net (placed job.checked) (side_of c.args.side) c.args.x.now l.t (omega arith) l.x (resistances l.upstream) l.changed l.invariant _ c.upstream_at-before.ensures (in_limits job.checked) places.weights (loads c.drive.new.driven) places.weighed c.drive.ensures _ (rw (loads-at c.drive.new.driven l.t) at settled) in
+    let finds = settle-finds net (placed job.checked) (side_of c.args.side) c.args.x.now l.t (omega arith) l.x (resistances l.upstream) l.changed l.invariant _ c.upstream_at-before.ensures (in_limits job.checked) places.weights.now (loads c.drive.new.driven) places.weighed c.drive.ensures _ (rw (loads-at c.drive.new.driven l.t) at settled) in
     rw (resistances-set l.upstream l.t c.upstream_at-before.result)
     (sweeping-step net (placed job.checked) (side_of c.args.side) c.args.x.now l.t (omega arith) l.x (resistances l.upstream) l.changed l.invariant _ c.upstream_at-before.ensures _ _ (driving-submodular job.checked) finds c.end_from-best.ensures)

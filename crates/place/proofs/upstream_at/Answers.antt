@@ -18,10 +18,10 @@ onward-requires-clause-a_bound c =
     let node = arranged.nodes.held c.args.t c.requires.t_bound in
     let falls = (placed checked).falls c.args.t c.requires.t_bound in (
       omega arith,
-      upstream-most (driving_by arranged.job.counts arranged.job.bytes.now) (placed checked) (in_limits checked) c.args.bounds.lower.now c.args.bounds.upper.now c.requires.bounds_of.lower (resistances c.args.upstream.now) c.args.t c.requires.upstream (at arranged.hangs c.args.t - 1) (omega arith) (omega arith),
+      upstream-most (driving_by arranged.job.counts arranged.job.bytes.now) (placed checked) (in_limits checked) c.args.bounds.lower.now c.args.bounds.upper.now c.requires.bounds_of.lower (resistances c.args.upstream.now) c.args.t c.requires.upstream (at arranged.hangs.now c.args.t - 1) (omega arith) (omega arith),
     )
 
 pub returns : goal.returns
 returns c =
     let arranged = c.args.places.now.arranged in
-    c.onward.ensures ∙ before-some _ (at arranged.hangs c.args.t) (λ e. c.if-node-eq0.false e) ∙ ap (before _) (arranged.nodes.held c.args.t c.requires.t_bound)
+    c.onward.ensures ∙ before-some _ (at arranged.hangs.now c.args.t) (λ e. c.if-node-eq0.false e) ∙ ap (before _) (arranged.nodes.held c.args.t c.requires.t_bound)

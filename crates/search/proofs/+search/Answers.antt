@@ -28,10 +28,10 @@ module _ {t : ℕ} (c : Start t) where
   few-places : (net_of c.args.tables.now).places ≤ 76
   few-places = let k = c.args.tables.now.prepared.checked in omega (arith, k.few_stages, k.few_segments, k.few_repeaters)
 
-  rest-few : at c.args.tables.now.skips (c.args.left - 1) < 76
+  rest-few : at c.args.tables.now.skips.now (c.args.left - 1) < 76
   rest-few = omega (arith, here-few, few-places, rest-low c.args.tables.now.prepared c.requires.before)
 
-  node-few : at c.args.tables.now.ups (c.args.left - 1) < 76
+  node-few : at c.args.tables.now.ups.now (c.args.left - 1) < 76
   node-few = omega (arith, here-few, few-places, node-low c.args.tables.now.prepared c.requires.before)
 
 pub free_place-then-requires : goal.free_place-then-requires
@@ -94,7 +94,7 @@ add-requires t c =
     let f = c.free_place-here.ensures in
     omega (
       arith,
-      loads-at c.args.gathered.now (at c.args.tables.now.ups (c.args.left - 1)),
+      loads-at c.args.gathered.now (at c.args.tables.now.ups.now (c.args.left - 1)),
       others-small c.args.tables.now.prepared c.requires.before,
       shown-small c.args.tables.now.prepared c.requires.before l.invariant.turning (inside-at f l.k (omega arith)) _ (loaded f c.args.gathered.now c.args.left _ c.requires.before.some c.add-load.ensures.0) c.step-step.result
           (step-at f l.k c.add-load.result.0 c.step-step.result (rw c.from.ensures at c.step-step.ensures)),
@@ -115,19 +115,19 @@ bounds-gathered-node-2 t c = omega (arith, node-few (goal.at.bounds-gathered-nod
 -- what the calls behind the step ask, and what they leave
 module _ {t : ℕ} (c : After-add t) where
   abbrev rest : ℕ
-  rest = at c.args.tables.now.skips (c.args.left - 1)
+  rest = at c.args.tables.now.skips.now (c.args.left - 1)
 
   abbrev put : List ℕ
   put = set c.loop-k.x (c.args.left - 1) c.loop-k.k
 
   abbrev arrived : List Capacitance
-  arrived = set c.loop-k.gathered (at c.args.tables.now.ups (c.args.left - 1)) c.add.result
+  arrived = set c.loop-k.gathered (at c.args.tables.now.ups.now (c.args.left - 1)) c.add.result
 
   before : IsBefore c.args.tables.now rest c.add-reached.result.0 put arrived c.loop-k.kept
   before =
       let l = c.loop-k in
       let f = c.free_place-here.ensures in
-      let node = at c.args.tables.now.ups (c.args.left - 1) in
+      let node = at c.args.tables.now.ups.now (c.args.left - 1) in
       record {
         some = c.requires.more;
         frees = rest-free c.args.tables.now.prepared c.requires.before (λ e. omega (arith, c.requires.more));
@@ -141,13 +141,13 @@ module _ {t : ℕ} (c : After-add t) where
       → record {
         turning : Turning (net_of c.args.tables.now) c.args.tables.now.bounds.lower.now c.args.tables.now.bounds.upper.now (c.args.left - 1) c.args.x.now (found_of c.args.kept.now) x (c.loop-k.k + 1) (found_of kept);
         same_space : SameSpace c.args.kept.now kept;
-        same_loads : (v : ℕ) → set (loads gathered) (at c.args.tables.now.ups (c.args.left - 1)) v ≡ set (loads c.args.gathered.now) (at c.args.tables.now.ups (c.args.left - 1)) v;
+        same_loads : (v : ℕ) → set (loads gathered) (at c.args.tables.now.ups.now (c.args.left - 1)) v ≡ set (loads c.args.gathered.now) (at c.args.tables.now.ups.now (c.args.left - 1)) v;
       }
   turned x gathered kept new e =
       let l = c.loop-k in
       let f = c.free_place-here.ensures in
       let old = l.invariant.same_space in
-      let node = at c.args.tables.now.ups (c.args.left - 1) in
+      let node = at c.args.tables.now.ups.now (c.args.left - 1) in
       record {
         turning = done c.args.tables.now.prepared c.requires.before l.invariant.turning (inside-at f l.k (omega arith)) _ new.lean_long new.wide_long e;
         same_space = record { lean = new.lean ∙ old.lean; wide = new.wide ∙ old.wide; lean_long = new.lean_long ∙ old.lean_long; wide_long = new.wide_long ∙ old.wide_long };
@@ -216,6 +216,6 @@ loop-k-preserved t c =
 pub returns-clause-searched : goal.returns-clause-searched
 returns-clause-searched t c =
     let l = c.loop-k in
-    let node = at c.args.tables.now.ups (c.args.left - 1) in
+    let node = at c.args.tables.now.ups.now (c.args.left - 1) in
     ended c.args.tables.now.prepared c.requires.before _ l.invariant.turning (outside-at c.free_place-here.ensures l.k (omega arith))
     (loads-set l.gathered node _ ∙ l.invariant.same_loads _ ∙ ap (λ (v : ℕ). set (loads c.args.gathered.now) node v) (loads-at c.args.gathered.now node) ∙ set-get_or (loads c.args.gathered.now) node 0)

@@ -1,12 +1,19 @@
--- The tables are those of the job and the bounds that are given.
+-- The tables are filled as the search asks.
+use Rattle.free.proofs.Placed.{between-long}
 use Rattle.search.proofs.between.Goals as goal
 
-pub start-requires : goal.start-requires
-start-requires c =
-    let t = c.new.ensures in
-    rw (t.same_job, t.same_bounds) (record { x_value = c.requires.x_value; for_places = c.requires.for_places })
+pub drive_and_add-fixed-requires : goal.drive_and_add-fixed-requires
+drive_and_add-fixed-requires c =
+    let long = between-long c.requires.between in
+    record { bounds_of = record { lower = c.requires.between.lower_allowed; lower_long = long.0; upper_long = long.1 } }
 
-pub returns-clause-taken : goal.returns-clause-taken
-returns-clause-taken c =
-    let t = c.new.ensures in
-    rw (t.same_job, t.same_bounds) at c.start.ensures.taken
+pub go_upstream-requires-clause-bounds_of : goal.go_upstream-requires-clause-bounds_of
+go_upstream-requires-clause-bounds_of c =
+    let long = between-long c.requires.between in
+    record { lower = c.requires.between.lower_allowed; lower_long = long.0; upper_long = long.1 }
+
+pub lift-requires : goal.lift-requires
+lift-requires c = between-long c.requires.between
+
+pub skip-requires : goal.skip-requires
+skip-requires c = between-long c.requires.between

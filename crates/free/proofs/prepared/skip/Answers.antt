@@ -1,7 +1,8 @@
 -- The loop has the positions passed.
-use mathlib.Core.Path.{◌≡◌, refl, ◌∙◌}
+use mathlib.Core.Path.{◌≡◌, ◌∙◌}
 use native.Mathlib.Omega.{arith}
 use lib.ListN.{length-set}
+use lib.Seq.{get_or-set_same}
 use borrow.Author.Tests.{lt-ltb, le-ltb}
 use Rattle.net.specs.Job.{places_by}
 use Rattle.free.proofs.Tables.{skips-none, skips-step}
@@ -9,7 +10,11 @@ use Rattle.free.proofs.prepared.skip.Goals as goal
 use Rattle.free.proofs.prepared.skip.Goals.{then-bounds-t, else-bounds-t}
 
 pub loop-t-init : goal.loop-t-init
-loop-t-init c = record { skipped = skips-none _ _ _ refl; long = refl }
+loop-t-init c =
+    record {
+      skipped = skips-none _ _ _ (get_or-set_same c.args.skips.now 0 0 0 (omega arith));
+      long = omega (arith, length-set c.args.skips.now 0 0);
+    }
 
 pub loop-t-preserved : goal.loop-t-preserved
 loop-t-preserved c =
