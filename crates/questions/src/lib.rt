@@ -58,13 +58,14 @@ fn count_records<'a>(bytes: &'a [u8], n: usize) -> Result<AllRecords<'a>, Refusa
 fn questions_from_24(all: &AllRecords<'_>) -> Result<(), Refusal>
     ensures { refusal_number result ≡ first_no (questions_from24 all.now.records.counts all.now.records.bytes.now) }
 {
-    require(asked::question24(&all.records), Refusal::Layers)?;
-    require(asked::question3(all.records.counts), Refusal::Counts)?;
+    let records = &all.records;
+    require(asked::question24(records), Refusal::Layers)?;
+    require(asked::question3(records.counts), Refusal::Counts)?;
     require(asked::question4(all), Refusal::Numbers)?;
     require(asked::question5(all), Refusal::UnnamedBytes)?;
-    require(asked::question6(&all.records), Refusal::Values)?;
-    require(asked::question7(&all.records), Refusal::Tables)?;
-    require(asked::question8(&all.records), Refusal::StageRanges)
+    require(asked::question6(records), Refusal::Values)?;
+    require(asked::question7(records), Refusal::Tables)?;
+    require(asked::question8(records), Refusal::StageRanges)
 }
 
 // The questions that are asked last, of linked segments: 22, 23, 20 and 21. `weights` has each segment's own weight byte before, and where all are
@@ -81,8 +82,9 @@ fn questions_from_22(
     ensures number { refusal_number result ≡ first_no (questions_from22 all.now.records.counts all.now.records.bytes.now) }
     ensures weights { OnOk result (SinkWeights all.now.records.counts all.now.records.bytes.now weights.new) }
 {
-    require(asked::question22(&all.records, first), Refusal::RepeaterSites)?;
-    require(asked::question23(&all.records), Refusal::RepeaterRanges)?;
+    let records = &all.records;
+    require(asked::question22(records, first), Refusal::RepeaterSites)?;
+    require(asked::question23(records), Refusal::RepeaterRanges)?;
     require(asked::question20(all), Refusal::WeightRecords)?;
     require(sinks::load(all, weights), Refusal::Fractions)
 }
