@@ -16,7 +16,7 @@ use Rattle.net.specs.Job.{byte, records, weight_records, places_by, width_at, wi
 use Rattle.net.specs.Questions.{in_range, question1, question24, question3, question4, zeros, sink_or_zero, question5, question6, question7, question8, question10, question23, question20}
 use Rattle.job.specs.Runs.{byte_of}
 use Rattle.runs.specs.Records.{byte_in_order, number_in_order, zero_bytes, byte_within, word_within, rows_in_order, range_within}
-use Rattle.segments.specs.Tests.{segment_fits}
+use Rattle.segments.specs.Tests.{first_segment, segment_fits}
 use Rattle.weight_records.specs.Tests.{first_weight, segments_rise, unnamed_zero, weight_fits}
 use Rattle.net.proofs.Records.{layer-0, layer-1}
 use Rattle.asked.specs.Parts.{top_layer, repeaters_zero}
@@ -170,7 +170,7 @@ module _ (c : Counts) (b : List ℕ) where
   question23-by d = d ∙ every-same _ _ _ (λ k l. rw (repeater-at c k))
 
   pub question20-by : {n : ℕ} {p : Bool} → n ≡ weight_records b
-      → p ≡ every n (weight_fits c b) → p ≡ question20 c b
+      → p ≡ every n (weight_fits b (first_segment c) c.segments b (first_weight c)) → p ≡ question20 c b
   unfolding question20
   question20-by a d = d ∙ rw a (every-same _ _ _ (λ k l. rw (weight-at c k, add_assoc (c.widths + c.sizes) c.stages (weight_segment c b k))
       (and_assoc (ltb (weight_segment c b k) c.segments) (not (eqb (segment_sink c b (weight_segment c b k)) 0)) (leb (weight_form c b k) 2 && (not (eqb (weight_form c b k) 1) || leb (weight_whole c b k) 255)))))

@@ -8,7 +8,7 @@ ghost use Rattle.net.specs.Questions.{question1, question2, question24, question
 ghost use Rattle.kinds.specs.Kinds.{EndsOf};
 ghost use Rattle.asked.specs.Parts.{top_layer, repeaters_zero, Firsts};
 
-use job::Records;
+use job::{AllRecords, Records};
 use kinds::RunEnds;
 use net::Counts;
 use runs::{Byte, Word};
@@ -49,10 +49,10 @@ pub fn question24(records: &Records<'_>) -> bool
 }
 
 // Question 3: is each kind's count in its range, that of widths in each layer?
-pub fn question3(records: &Records<'_>) -> bool
-    ensures { result ≡ question3 records.now.counts }
+pub fn question3(counts: Counts) -> bool
+    requires { counts.layer0 ≤ counts.widths }
+    ensures { result ≡ question3 counts }
 {
-    let counts = records.counts;
     let first = (1 <= counts.layer0) & (counts.layer0 <= 8);
     let second = counts.widths - counts.layer0 <= 8;
     let sizes = (1 <= counts.sizes) & (counts.sizes <= 16);
@@ -64,16 +64,16 @@ pub fn question3(records: &Records<'_>) -> bool
 
 // Question 4: do numbers count from 0 in each of the kinds 1 to 5, those of widths in each layer, and does byte 1 of weight records strictly rise?
 // The segments come last, so that the compiler keeps no answer while it goes through the longest run.
-pub fn question4(records: &Records<'_>) -> bool
-    ensures { result ≡ question4 records.now.counts records.now.bytes.now }
+pub fn question4(all: &AllRecords<'_>) -> bool
+    ensures { result ≡ question4 all.now.records.counts all.now.records.bytes.now }
 {
-    let first = runs::numbers_in_order(&records.layer0());
-    let second = runs::numbers_in_order(&records.layer1());
-    let sizes = runs::numbers_in_order(&records.sizes());
-    let stages = runs::numbers_in_order(&records.stages());
-    let repeaters = runs::numbers_in_order(&records.repeaters());
-    let weights = weight_records::segments_rise(&records.weights());
-    let segments = runs::numbers_in_order(&records.segments());
+    let first = runs::numbers_in_order(&all.records.layer0());
+    let second = runs::numbers_in_order(&all.records.layer1());
+    let sizes = runs::numbers_in_order(&all.records.sizes());
+    let stages = runs::numbers_in_order(&all.records.stages());
+    let repeaters = runs::numbers_in_order(&all.records.repeaters());
+    let weights = weight_records::segments_rise(&all.weights());
+    let segments = runs::numbers_in_order(&all.records.segments());
     (first & second) & (sizes & (stages & (segments & (repeaters & weights))))
 }
 
@@ -89,20 +89,20 @@ fn repeaters_zero(records: &Records<'_>) -> bool
 }
 
 // Question 5: are all unnamed bytes zero?
-pub fn question5(records: &Records<'_>) -> bool
-    ensures { result ≡ question5 records.now.counts records.now.bytes.now }
+pub fn question5(all: &AllRecords<'_>) -> bool
+    ensures { result ≡ question5 all.now.records.counts all.now.records.bytes.now }
 {
-    let widths = records.widths();
+    let widths = all.records.widths();
     let before = runs::bytes_zero(&widths, 3, 1);
     let behind = runs::within(&widths, Word(12), 0, 0);
-    let sizes = runs::bytes_zero(&records.sizes(), 2, 2);
-    let run = records.stages();
+    let sizes = runs::bytes_zero(&all.records.sizes(), 2, 2);
+    let run = all.records.stages();
     let second = runs::within(&run, Word(4), 0, 0);
     let third = runs::within(&run, Word(8), 0, 0);
     let fourth = runs::within(&run, Word(12), 0, 0);
     let stages = second & (third & fourth);
-    let repeaters = repeaters_zero(records);
-    let weights = weight_records::unnamed_zero(&records.weights());
+    let repeaters = repeaters_zero(&all.records);
+    let weights = weight_records::unnamed_zero(&all.weights());
     (before & behind) & (sizes & (stages & (repeaters & weights)))
 }
 
@@ -159,8 +159,8 @@ pub fn question23(records: &Records<'_>) -> bool
 }
 
 // Question 20: is the segment of every weight record there, has it a sink, is the form at most 2, and a whole number at most 255?
-pub fn question20(records: &Records<'_>) -> bool
-    ensures { result ≡ question20 records.now.counts records.now.bytes.now }
+pub fn question20(all: &AllRecords<'_>) -> bool
+    ensures { result ≡ question20 all.now.records.counts all.now.records.bytes.now }
 {
-    weight_records::weights_fit(records)
+    weight_records::weights_fit(&all.records.segments(), &all.weights())
 }

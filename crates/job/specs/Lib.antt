@@ -3,3 +3,4 @@ pub mod Ranges
 pub mod Runs
 pub mod Tables
 pub mod RunOf
+pub mod RecordsOf

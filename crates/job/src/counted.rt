@@ -1,21 +1,27 @@
-// All records of a job, once they are counted by kind.
+// The records of a job, once they are counted by kind.
 ghost use Rattle.std.specs.Prelude.{◌≡◌, ◌+◌, ◌-◌};
 ghost use Rattle.net.specs.Job.{places_by, widths_of};
 ghost use Rattle.net.specs.Checked.{Held, WeightsHeld};
 ghost use Rattle.job.specs.RunOf.{RunOf};
 ghost use Rattle.job.specs.Runs.{HasRun};
 
-use super::Run;
+use super::{Run, widths_of};
 use net::Counts;
 
-// A job whose records are counted by kind; `weights` is the count of the weight records, which stand behind the others.
+// A job whose records are counted by kind, but for its weight records.
 #[derive(Clone, Copy)]
 pub struct Records<'a> {
     pub bytes: &'a [u8],
     pub counts: Counts,
-    pub weights: usize,
     ghost held: { Held counts bytes.now },
-    ghost weights_held: { WeightsHeld counts bytes.now weights },
+}
+
+// The same with the count of the weight records, which stand behind the others.
+#[derive(Clone, Copy)]
+pub struct AllRecords<'a> {
+    pub records: Records<'a>,
+    pub weights: usize,
+    ghost weights_held: { WeightsHeld records.counts records.bytes.now weights },
 }
 
 impl<'a> Records<'a> {
@@ -55,10 +61,7 @@ impl<'a> Records<'a> {
     pub fn widths_of(&self, layer: usize) -> usize
         ensures { result ≡ widths_of self.now.counts layer }
     {
-        if layer == 0 {
-            return self.counts.layer0;
-        }
-        self.counts.widths - self.counts.layer0
+        widths_of(self.counts, layer)
     }
 
     pub fn sizes(&self) -> Run<'a>
@@ -91,13 +94,19 @@ impl<'a> Records<'a> {
         )
     }
 
-    pub fn weights(&self) -> Run<'a>
-        ensures { RunOf self.now.bytes.now (self.now.counts.widths + self.now.counts.sizes + places_by self.now.counts) self.now.weights result }
+    // Where among all records the weight records start.
+    fn first_weight(&self) -> usize
+        ensures { result ≡ self.now.counts.widths + self.now.counts.sizes + places_by self.now.counts }
     {
         let places = self.counts.stages + self.counts.segments + self.counts.repeaters;
-        self.run(
-            self.counts.widths + self.counts.sizes + places,
-            self.weights,
-        )
+        self.counts.widths + self.counts.sizes + places
+    }
+}
+
+impl<'a> AllRecords<'a> {
+    pub fn weights(&self) -> Run<'a>
+        ensures { RunOf self.now.records.bytes.now (self.now.records.counts.widths + self.now.records.counts.sizes + places_by self.now.records.counts) self.now.weights result }
+    {
+        self.records.run(self.records.first_weight(), self.weights)
     }
 }

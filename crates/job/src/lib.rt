@@ -2,17 +2,19 @@
 #![tactic(auto)]
 
 ghost use Rattle.std.specs.Prelude.{◌≡◌, ◌+◌, ◌*◌, ◌^◌, ◌<◌, ◌≤◌, length};
-ghost use Rattle.net.specs.Job.{byte, word, width_at, widths_of, first_row, size_at, place_at, segment_at, segment_length, segment_layer, places_by};
+ghost use Rattle.net.specs.Job.{byte, word, width_at, widths_of, first_row, size_at, place_at, segment_layer, places_by};
 ghost use Rattle.net.specs.Net.{net_by};
 ghost use Rattle.net.specs.Checked.{Checked};
 ghost use Rattle.job.specs.WireAt.{WireAt};
-ghost use Rattle.job.specs.Ranges.{RangeAt, RangeOf, driver_at};
+ghost use Rattle.job.specs.Ranges.{RangeOf, driver_at};
 ghost use Rattle.job.specs.Tables.{TableOf};
+ghost use Rattle.job.specs.RecordsOf.{RecordsOf};
 
 mod counted;
+mod fields;
 mod runs;
 
-pub use counted::Records;
+pub use counted::{AllRecords, Records};
 use net::Counts;
 use quantity::{Capacitance, Resistance};
 pub use runs::Run;
@@ -47,6 +49,26 @@ pub fn word_at(b: &[u8], at: usize) -> u64
     u64::from(u32::from_le_bytes([b[at], b[at + 1], b[at + 2], b[at + 3]]))
 }
 
+// How many widths a layer has.
+pub fn widths_of(counts: Counts, layer: usize) -> usize
+    requires { counts.layer0 ≤ counts.widths }
+    ensures { result ≡ widths_of counts layer }
+{
+    if layer == 0 {
+        return counts.layer0;
+    }
+    counts.widths - counts.layer0
+}
+
+// Is place p a driver, and not a wire? A stage's number less the count of stages wraps round to one above all, so one comparison tells a stage and a
+// repeater from a segment.
+pub fn is_driver(counts: Counts, p: usize) -> bool
+    requires { (counts.stages ≤ 4) × (counts.segments ≤ 64) }
+    ensures { result ≡ driver_at counts p }
+{
+    counts.segments <= p.wrapping_sub(counts.stages)
+}
+
 // A job that passed its questions: its bytes, and how many records it has of each kind.
 #[derive(Clone, Copy)]
 pub struct Job<'a> {
@@ -55,7 +77,17 @@ pub struct Job<'a> {
     ghost checked: { Checked counts bytes.now },
 }
 
-impl Job<'_> {
+impl<'a> Job<'a> {
+    // Its records, of which less is known.
+    pub fn records(&self) -> Records<'a>
+        ensures { RecordsOf self.now.counts self.now.bytes.now result }
+    {
+        Records {
+            bytes: self.bytes,
+            counts: self.counts,
+        }
+    }
+
     // How many places there are.
     pub fn places(&self) -> usize
         ensures { (result ≡ places_by self.now.counts) × (result ≤ 76) }
@@ -68,7 +100,7 @@ impl Job<'_> {
         requires { (p < places_by self.now.counts) × (at < 16) }
         ensures { result ≡ byte self.now.bytes.now (place_at self.now.counts p + at) }
     {
-        self.bytes[16 * (self.counts.widths + self.counts.sizes + p) + at]
+        self.records().place_byte(p, at)
     }
 
     // A word of place p's record.
@@ -76,10 +108,7 @@ impl Job<'_> {
         requires { (p < places_by self.now.counts) × (at ≤ 12) }
         ensures { (result ≡ word self.now.bytes.now (place_at self.now.counts p + at)) × (result < 2 ^ 32) }
     {
-        word_at(
-            self.bytes,
-            16 * (self.counts.widths + self.counts.sizes + p) + at,
-        )
+        self.records().place_word(p, at)
     }
 
     // A word of width k's record.
@@ -87,7 +116,7 @@ impl Job<'_> {
         requires { (k < self.now.counts.widths) × (at ≤ 12) }
         ensures { (result ≡ word self.now.bytes.now (width_at k + at)) × (result < 2 ^ 32) }
     {
-        word_at(self.bytes, 16 * k + at)
+        self.records().row_word(k, at)
     }
 
     // A word of driver size k's record.
@@ -95,7 +124,7 @@ impl Job<'_> {
         requires { (k < self.now.counts.sizes) × (at ≤ 12) }
         ensures { (result ≡ word self.now.bytes.now (size_at self.now.counts k + at)) × (result < 2 ^ 32) }
     {
-        word_at(self.bytes, 16 * (self.counts.widths + k) + at)
+        self.records().size_word(k, at)
     }
 
     // The node that segment i hangs at.
@@ -103,7 +132,7 @@ impl Job<'_> {
         requires { i < self.now.counts.segments }
         ensures { (result ≡ (net_by self.now.counts self.now.bytes.now).parent i) × (result ≤ i) }
     {
-        usize::from(self.place_byte(self.counts.stages + i, 2))
+        self.records().parent(i)
     }
 
     // The capacitance of segment i's sink.
@@ -111,7 +140,7 @@ impl Job<'_> {
         requires { i < self.now.counts.segments }
         ensures { result.0 ≡ (net_by self.now.counts self.now.bytes.now).sink i }
     {
-        Capacitance(self.place_word(self.counts.stages + i, 8))
+        self.records().sink(i)
     }
 
     // The segment at whose far end repeater r sits.
@@ -119,7 +148,7 @@ impl Job<'_> {
         requires { r < self.now.counts.repeaters }
         ensures { (result ≡ (net_by self.now.counts self.now.bytes.now).site r) × (result < self.now.counts.segments) }
     {
-        usize::from(self.place_byte(self.counts.stages + self.counts.segments + r, 2))
+        self.records().site(r)
     }
 
     // The resistance of a driver of the size k.
@@ -127,7 +156,7 @@ impl Job<'_> {
         requires { k < self.now.counts.sizes }
         ensures { result.0 ≡ (net_by self.now.counts self.now.bytes.now).driver_resistance k }
     {
-        Resistance(self.size_word(k, 4))
+        self.records().driver_resistance(k)
     }
 
     // The gate capacitance of a driver of the size k.
@@ -135,7 +164,7 @@ impl Job<'_> {
         requires { k < self.now.counts.sizes }
         ensures { result.0 ≡ (net_by self.now.counts self.now.bytes.now).gate k }
     {
-        Capacitance(self.size_word(k, 8))
+        self.records().gate(k)
     }
 
     // The output capacitance of a driver of the size k.
@@ -143,7 +172,7 @@ impl Job<'_> {
         requires { k < self.now.counts.sizes }
         ensures { result.0 ≡ (net_by self.now.counts self.now.bytes.now).output k }
     {
-        Capacitance(self.size_word(k, 12))
+        self.records().output(k)
     }
 
     // Where among the widths the table of place p's layer starts. A stage has no layer, and its byte there is zero.
@@ -151,10 +180,7 @@ impl Job<'_> {
         requires { p < places_by self.now.counts }
         ensures { result ≡ first_row self.now.counts (byte self.now.bytes.now (place_at self.now.counts p + 15)) }
     {
-        if self.place_byte(p, 15) == 0 {
-            return 0;
-        }
-        self.counts.layer0
+        self.records().first_row(p)
     }
 
     // What the wire of place p is read by. A loop over the indices of a place asks it once, before it.
@@ -162,10 +188,7 @@ impl Job<'_> {
         requires { p < places_by self.now.counts }
         ensures { TableOf self.now.counts self.now.bytes.now p result }
     {
-        Table {
-            rows: self.first_row(p),
-            length: self.place_word(p, 4),
-        }
+        self.records().table(p)
     }
 
     // Segment i's wire at the width k.
@@ -174,25 +197,7 @@ impl Job<'_> {
         requires i_lt_segments { (i < self.now.counts.segments) × (k < widths_of self.now.counts (segment_layer self.now.counts self.now.bytes.now i)) }
         ensures { WireAt (net_by self.now.counts self.now.bytes.now) i k result }
     {
-        let row = table.rows + k;
-        Wire {
-            resistance: Resistance(self.row_word(row, 4)).along(table.length),
-            capacitance: Capacitance(self.row_word(row, 8)).along(table.length),
-        }
-    }
-
-    // Where the range of place p stands in its record: the lowest index, and behind it the highest.
-    fn range_at(&self, p: usize) -> usize
-        requires { p < places_by self.now.counts }
-        ensures { RangeAt self.now.counts p result }
-    {
-        if p < self.counts.stages {
-            return 2;
-        }
-        if p - self.counts.stages < self.counts.segments {
-            return 13;
-        }
-        3
+        self.records().wire(table, i, k)
     }
 
     // The indices that place p may have. Where they stand is asked once for both.
@@ -200,18 +205,13 @@ impl Job<'_> {
         requires { p < places_by self.now.counts }
         ensures { RangeOf self.now.counts self.now.bytes.now p result }
     {
-        let at = self.range_at(p);
-        Range {
-            lowest: self.place_byte(p, at),
-            highest: self.place_byte(p, at + 1),
-        }
+        self.records().range(p)
     }
 
-    // Is place p a driver, and not a wire? A stage's number less the count of stages wraps round to one above all, so one comparison tells a stage and
-    // a repeater from a segment.
+    // Is place p a driver, and not a wire?
     pub fn is_driver(&self, p: usize) -> bool
         ensures { result ≡ driver_at self.now.counts p }
     {
-        self.counts.segments <= p.wrapping_sub(self.counts.stages)
+        is_driver(self.counts, p)
     }
 }

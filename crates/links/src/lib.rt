@@ -44,10 +44,9 @@ pub fn link(records: &Records<'_>, first: &mut [usize], next: &mut [usize]) -> b
     ensures lengths { SameLengths first.old next.old first.new next.new }
 {
     let n = records.counts.segments;
-    let segments = records.segments();
     unlink(first, n);
     for j in (0..n).rev() {
-        let parent = segments.byte(j, 2);
+        let parent = records.parent(j);
         if j < parent {
             return false;
         }

@@ -20,9 +20,11 @@ use Rattle.refusal.specs.declared.Refusal.{Refusal}
 use Rattle.refusal.specs.Numbers.{number_of}
 use Rattle.refusal.proofs.Positive.{number-positive}
 use Rattle.kinds.specs.Counted.{counts_to}
-use Rattle.segments.specs.Tests.{OwnWeights, all_fit, all_end, segments_number}
+use Rattle.segments.specs.Tests.{OwnWeights, first_segment, all_fit, all_end, segments_number}
 use Rattle.sinks.specs.Loaded.{LoadedTo}
-use Rattle.job.specs.declared.counted.Records.{Records}
+use Rattle.job.specs.declared.runs.Run.{Run}
+use Rattle.job.specs.declared.counted.AllRecords.{AllRecords}
+use Rattle.job.specs.RunOf.{RunOf}
 use Rattle.questions.specs.Check.{Begun, questions_from1, questions_from9, questions_from22, questions_from24}
 
 -- r is the answer to the question q, the first of those that are left: yes, and a later one decides; or no; or it is the last
@@ -70,9 +72,11 @@ pub weights-there : (b : List ℕ) {c : Counts} {n : ℕ} → c ≡ counts_of b 
 weights-there b e f = rw (e, f) record { counted = refl; there = omega (arith, weights-held b) }
 
 -- The weight bytes of the segments are the weights before any weight record is read.
-pub own-loaded : {c : Counts} {b t : List ℕ} → OwnWeights b (c.widths + c.sizes + c.stages) c.segments t → LoadedTo c b 0 t
+pub own-loaded : {c : Counts} {b t : List ℕ} {r : Run} → RunOf b (first_segment c) c.segments r → OwnWeights r.bytes.now r.start r.count t → LoadedTo c b 0 t
 unfolding last_at
-own-loaded {c} o = record { long = o.long; weighs = λ i h. rw (← add_assoc (c.widths + c.sizes) c.stages i) (o.own i h) }
+own-loaded {c} {b} {t} o w =
+    let own : OwnWeights b (first_segment c) c.segments t = rw (o.bytes, o.start, o.count) at w in
+    record { long = own.long; weighs = λ i h. rw (← add_assoc (c.widths + c.sizes) c.stages i) (own.own i h) }
 
 -- The first no among some questions is that of all.
 found : (qs rs : List Question) (f : Refusal) → number_of f ≡ first_no qs → number_of f ≡ first_no (qs ++ rs)
@@ -113,51 +117,50 @@ pub refused-1 : (b : List ℕ) (f : Refusal) → number_of f ≡ first_no (quest
 unfolding first_no refusal job_questions questions_from1 questions_from24 questions_from9 questions_from22
 refused-1 b f h = found (questions_from1 b) (questions_from24 (counts_of b) b ++ questions_from9 (counts_of b) b) f h
 
-module _ {b : List ℕ} {r : Records} (k : Begun b r) where
-  both : {n : ℕ} → n ≡ first_no (questions_from24 r.counts r.bytes.now ++ questions_from9 r.counts r.bytes.now) → n ≡ refusal b
+module _ {b : List ℕ} {a : AllRecords} (k : Begun b a) where
+  both : {n : ℕ} → n ≡ first_no (questions_from24 a.records.counts a.records.bytes.now ++ questions_from9 a.records.counts a.records.bytes.now) → n ≡ refusal b
   unfolding first_no refusal job_questions questions_from24 questions_from9 questions_from22
   both h = rw (k.one, k.two) (rw (k.bytes, k.counted) at h)
 
   -- a question before linking refuses it
-  pub refused-24 : (f : Refusal) → number_of f ≡ first_no (questions_from24 r.counts r.bytes.now) → number_of f ≡ refusal b
-  refused-24 f h = both (found (questions_from24 r.counts r.bytes.now) (questions_from9 r.counts r.bytes.now) f h)
+  pub refused-24 : (f : Refusal) → number_of f ≡ first_no (questions_from24 a.records.counts a.records.bytes.now) → number_of f ≡ refusal b
+  refused-24 f h = both (found (questions_from24 a.records.counts a.records.bytes.now) (questions_from9 a.records.counts a.records.bytes.now) f h)
 
   -- it passes those
-  module _ (h : 0 ≡ first_no (questions_from24 r.counts r.bytes.now)) where
-    passed-24 : Passed (questions_from24 r.counts r.bytes.now)
+  module _ (h : 0 ≡ first_no (questions_from24 a.records.counts a.records.bytes.now)) where
+    passed-24 : Passed (questions_from24 a.records.counts a.records.bytes.now)
     unfolding questions_from24
-    passed-24 = all-passed (questions_from24 r.counts r.bytes.now) (omega arith, (omega arith, (omega arith, (omega arith, (omega arith, (omega arith, (omega arith, tt))))))) h
+    passed-24 = all-passed (questions_from24 a.records.counts a.records.bytes.now) (omega arith, (omega arith, (omega arith, (omega arith, (omega arith, (omega arith, (omega arith, tt))))))) h
 
-    pub few-segments : r.counts.segments ≤ 64
+    pub few-segments : a.records.counts.segments ≤ 64
     unfolding questions_from24
-    few-segments = (in-counts r.counts passed-24.1.0).1
+    few-segments = (in-counts a.records.counts passed-24.1.0).1
 
-    pub from-9 : {n : ℕ} → n ≡ first_no (questions_from9 r.counts r.bytes.now) → n ≡ refusal b
-    from-9 t = both (passed-on (questions_from24 r.counts r.bytes.now) (questions_from9 r.counts r.bytes.now) passed-24 t)
+    pub from-9 : {n : ℕ} → n ≡ first_no (questions_from9 a.records.counts a.records.bytes.now) → n ≡ refusal b
+    from-9 t = both (passed-on (questions_from24 a.records.counts a.records.bytes.now) (questions_from9 a.records.counts a.records.bytes.now) passed-24 t)
 
--- Questions 10 and 11, by the loop over the segments, where those before them pass.
-module _ (c : Counts) (b first : List ℕ) (ten : all_fit c b ≡ question10 c b) (eleven : all_end c b first ≡ question11 c b) where
-  pub segments-refuse : (f : Refusal) (qs : List Question) → number_of f ≡ segments_number c b first → number_of f ≡ first_no (ask 10 (question10 c b) ∷ ask 11 (question11 c b) ∷ qs)
+-- Questions 10 and 11, by the loop over the run of the segments, where those before them pass.
+module _ (c : Counts) (b first : List ℕ) {r : Run} (o : RunOf b (first_segment c) c.segments r) (ten : all_fit b c (first_segment c) c.segments ≡ question10 c b)
+    (eleven : all_end b first (first_segment c) c.segments ≡ question11 c b) where
+  told : segments_number r.bytes.now c first r.start r.count ≡ cond (question10 c b) (cond (question11 c b) 0 11) 10
+  told = rw (o.bytes, o.start, o.count, ten, eleven)
+
+  pub segments-refuse : (f : Refusal) (qs : List Question) → number_of f ≡ segments_number r.bytes.now c first r.start r.count
+      → number_of f ≡ first_no (ask 10 (question10 c b) ∷ ask 11 (question11 c b) ∷ qs)
   unfolding first_no
-  segments-refuse f qs h = rw (← ten, ← eleven) (go (all_fit c b) (all_end c b first) h)
+  segments-refuse f qs h = go (question10 c b) (question11 c b) (h ∙ told)
     where
       go : (p q : Bool) → number_of f ≡ cond p (cond q 0 11) 10 → number_of f ≡ cond p (cond q (first_no qs) 11) 10
       go true true t = absurd (omega (arith, number-positive f))
       go true false t = t
       go false q t = t
 
-  pub segments-pass : {n : ℕ} (qs : List Question) → 0 ≡ segments_number c b first → n ≡ first_no qs → n ≡ first_no (ask 10 (question10 c b) ∷ ask 11 (question11 c b) ∷ qs)
+  pub segments-pass : {n : ℕ} (qs : List Question) → 0 ≡ segments_number r.bytes.now c first r.start r.count → n ≡ first_no qs
+      → n ≡ first_no (ask 10 (question10 c b) ∷ ask 11 (question11 c b) ∷ qs)
   unfolding first_no
-  segments-pass {n} qs h t = rw (← ten, ← eleven) (go (all_fit c b) (all_end c b first) h)
+  segments-pass {n} qs h t = go (question10 c b) (question11 c b) (h ∙ told)
     where
       go : (p q : Bool) → ◌≡◌ {A = ℕ} 0 (cond p (cond q 0 11) 10) → n ≡ cond p (cond q (first_no qs) 11) 10
       go true true u = t
       go true false u = absurd (omega arith)
       go false q u = absurd (omega arith)
-
-pub all-fit : (c : Counts) (b first : List ℕ) → 0 ≡ segments_number c b first → all_fit c b ≡ true
-all-fit c b first = go (all_fit c b) (all_end c b first)
-  where
-    go : (p q : Bool) → ◌≡◌ {A = ℕ} 0 (cond p (cond q 0 11) 10) → p ≡ true
-    go true q u = refl
-    go false q u = absurd (omega arith)

@@ -5,7 +5,7 @@ use Rattle.net.specs.Job.{records, counts_of}
 use Rattle.net.specs.Questions.{question1, question2, question24, question3, question4, question5, question6, question7, question8, question9, question10, question11, question22, question23, question20, question21, Question, ask, refusal}
 use Rattle.net.specs.Checked.{SinkWeights}
 use Rattle.job.specs.declared.Job.{Job}
-use Rattle.job.specs.declared.counted.Records.{Records}
+use Rattle.job.specs.declared.counted.AllRecords.{AllRecords}
 use Rattle.links.specs.Links.{LinkedBy}
 use Rattle.refusal.specs.Numbers.{number_of}
 use Rattle.questions.specs.declared.Passed.{Passed}
@@ -21,11 +21,11 @@ check_records (Ok p) = p.records
 check_records (Err f) = f.records
 
 -- r is the records of the job b, counted by kind, and the job passes questions 1 and 2.
-pub record Begun (b : List ℕ) (r : Records) : Type 0 where
-  pub bytes : r.bytes.now ≡ b
+pub record Begun (b : List ℕ) (r : AllRecords) : Type 0 where
+  pub bytes : r.records.bytes.now ≡ b
   pub one : question1 b ≡ true
   pub two : question2 b ≡ true
-  pub counted : r.counts ≡ counts_of b
+  pub counted : r.records.counts ≡ counts_of b
 
 -- j is the job b, which has the facts of `Checked` by its type; its segments are linked, and the weights of their sinks are loaded.
 pub record PassedOf (b : List ℕ) (j : Job) (first next weights : List ℕ) : Type 0 where

@@ -11,7 +11,7 @@ ghost use Rattle.sinks.specs.Loaded.{LoadedTo};
 ghost use Rattle.asked.specs.Parts.{Firsts};
 ghost use Rattle.questions.specs.Check.{Begun, CheckOf, PassedOf, questions_from1, questions_from24, questions_from22};
 
-use job::{Job, Records};
+use job::{AllRecords, Job, Records};
 use refusal::{Refusal, require};
 
 // A job that passed all its questions, and the count of its records.
@@ -38,31 +38,31 @@ impl From<Failed> for Refusal {
 
 // Questions 1 and 2 of a job of n records, and where they are passed the records counted by kind.
 #[tactic(auto, using(crate::proofs::Numbers::yes, crate::proofs::Numbers::no, crate::proofs::Numbers::last), unfolding(crate::specs::Check::questions_from1))]
-fn count_records<'a>(bytes: &'a [u8], n: usize) -> Result<Records<'a>, Refusal>
+fn count_records<'a>(bytes: &'a [u8], n: usize) -> Result<AllRecords<'a>, Refusal>
     requires { n ≡ records bytes.now }
     ensures number { refusal_number result ≡ first_no (questions_from1 bytes.now) }
-    ensures begun { IfOk result (λ counted. Begun bytes.now counted) }
+    ensures begun { IfOk result (λ all. Begun bytes.now all) }
 {
     require(asked::question1(bytes, n), Refusal::Length)?;
     let ends = kinds::find_ends(bytes, n);
     require(asked::question2(bytes, n, ends), Refusal::Kinds)?;
     let counts = kinds::count(bytes, n, ends);
-    Ok(Records {
-        bytes,
-        counts,
+    Ok(AllRecords {
+        records: Records { bytes, counts },
         weights: n - ends.repeaters,
     })
 }
 
 // The questions that are asked before the segments are linked: 24 and 3 to 8.
 #[tactic(auto, using(crate::proofs::Numbers::yes, crate::proofs::Numbers::no, crate::proofs::Numbers::last), unfolding(crate::specs::Check::questions_from24))]
-fn questions_from_24(records: &Records<'_>) -> Result<(), Refusal>
-    ensures { refusal_number result ≡ first_no (questions_from24 records.now.counts records.now.bytes.now) }
+fn questions_from_24(all: &AllRecords<'_>) -> Result<(), Refusal>
+    ensures { refusal_number result ≡ first_no (questions_from24 all.now.records.counts all.now.records.bytes.now) }
 {
+    let records = &all.records;
     require(asked::question24(records), Refusal::Layers)?;
-    require(asked::question3(records), Refusal::Counts)?;
-    require(asked::question4(records), Refusal::Numbers)?;
-    require(asked::question5(records), Refusal::UnnamedBytes)?;
+    require(asked::question3(records.counts), Refusal::Counts)?;
+    require(asked::question4(all), Refusal::Numbers)?;
+    require(asked::question5(all), Refusal::UnnamedBytes)?;
     require(asked::question6(records), Refusal::Values)?;
     require(asked::question7(records), Refusal::Tables)?;
     require(asked::question8(records), Refusal::StageRanges)
@@ -72,20 +72,21 @@ fn questions_from_24(records: &Records<'_>) -> Result<(), Refusal>
 // passed the weight of each segment's sink afterwards: loading them asks question 21.
 #[tactic(auto, using(crate::proofs::Numbers::yes, crate::proofs::Numbers::no, crate::proofs::Numbers::last), unfolding(crate::specs::Check::questions_from22))]
 fn questions_from_22(
-    records: &Records<'_>,
+    all: &AllRecords<'_>,
     first: &[usize],
     weights: &mut [u8; 64],
 ) -> Result<(), Refusal>
-    requires few { records.now.counts.segments ≤ 64 }
-    requires firsts { Firsts (net_by records.now.counts records.now.bytes.now) first.now }
-    requires loaded_to { LoadedTo records.now.counts records.now.bytes.now 0 weights.old }
-    ensures number { refusal_number result ≡ first_no (questions_from22 records.now.counts records.now.bytes.now) }
-    ensures weights { OnOk result (SinkWeights records.now.counts records.now.bytes.now weights.new) }
+    requires few { all.now.records.counts.segments ≤ 64 }
+    requires firsts { Firsts (net_by all.now.records.counts all.now.records.bytes.now) first.now }
+    requires loaded_to { LoadedTo all.now.records.counts all.now.records.bytes.now 0 weights.old }
+    ensures number { refusal_number result ≡ first_no (questions_from22 all.now.records.counts all.now.records.bytes.now) }
+    ensures weights { OnOk result (SinkWeights all.now.records.counts all.now.records.bytes.now weights.new) }
 {
+    let records = &all.records;
     require(asked::question22(records, first), Refusal::RepeaterSites)?;
     require(asked::question23(records), Refusal::RepeaterRanges)?;
-    require(asked::question20(records), Refusal::WeightRecords)?;
-    require(sinks::load(records, weights), Refusal::Fractions)
+    require(asked::question20(all), Refusal::WeightRecords)?;
+    require(sinks::load(all, weights), Refusal::Fractions)
 }
 
 // All questions of a job of n records, in their order. Where all are passed, the segments are linked and `weights` has the weight of each segment's
@@ -102,11 +103,12 @@ fn questions_from_1<'a>(
     ensures number { refusal_number result ≡ refusal bytes.now }
     ensures passed { IfOk result (λ job. PassedOf bytes.now job first.new next.new weights.new) }
 {
-    let records = count_records(bytes, n)?;
-    questions_from_24(&records)?;
+    let all = count_records(bytes, n)?;
+    let records = all.records;
+    questions_from_24(&all)?;
     require(links::link(&records, first, next), Refusal::Parents)?;
-    segments::segments_fit(&records, first, weights)?;
-    questions_from_22(&records, first, weights)?;
+    segments::segments_fit(&records.segments(), records.counts, first, weights)?;
+    questions_from_22(&all, first, weights)?;
     Ok(Job {
         bytes: records.bytes,
         counts: records.counts,

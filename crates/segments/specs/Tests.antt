@@ -1,10 +1,12 @@
 -- Tests of one segment, and of the segment of one repeater, which the questions ask of each. A run starts at the record `start`; k is a record's place in
 -- it, from 0.
-use Rattle.std.specs.Prelude.{◌≡◌, Bool, cond, not, ◌&&◌, ◌||◌, List, ℕ, ◌+◌, ◌<◌, leb, ltb, eqb, length, get_or}
+use Rattle.std.specs.Prelude.{◌≡◌, Bool, cond, not, ◌&&◌, ◌||◌, List, ℕ, ◌+◌, ◌<◌, leb, ltb, eqb, length, get_or, Result}
 use Rattle.lattice.specs.Lists.{at, every}
 use Rattle.net.specs.declared.Counts.{Counts}
 use Rattle.net.specs.Job.{widths_of}
 use Rattle.job.specs.Runs.{byte_of, word_of}
+use Rattle.refusal.specs.declared.Refusal.{Refusal}
+use Rattle.refusal.specs.Numbers.{refusal_number}
 
 -- Is segment i one of n, and has it, by the first segment at each node, branches?
 abbrev pub branched : List ℕ → ℕ → ℕ → Bool
@@ -24,6 +26,17 @@ module _ (b : List ℕ) where
   abbrev pub sink_or_branch : List ℕ → ℕ → ℕ → ℕ → Bool
   sink_or_branch first start n k = not (eqb (byte_of b start 3 k) 0) || ltb (get_or first (k + 1) 0) n
 
+  -- Is the first of these passed by each of n segments, and has each a sink or branches?
+  abbrev pub all_fit : Counts → ℕ → ℕ → Bool
+  all_fit c start n = every n (segment_fits c start)
+
+  abbrev pub all_end : List ℕ → ℕ → ℕ → Bool
+  all_end first start n = every n (sink_or_branch first start n)
+
+  -- The number of the first of the two that fails, as question 10 or 11, or 0.
+  abbrev pub segments_number : Counts → List ℕ → ℕ → ℕ → ℕ
+  segments_number c first start n = cond (all_fit c start n) (cond (all_end first start n) 0 11) 10
+
   -- t has the weight byte of each of the first n segments.
   pub record OwnWeights (start n : ℕ) (t : List ℕ) : Type 0 where
     pub long : length t ≡ 64
@@ -37,17 +50,13 @@ module _ (b : List ℕ) where
   abbrev pub sites_rise : ℕ → ℕ → Bool
   sites_rise start k = ltb (byte_of b start 2 k) (byte_of b start 2 (k + 1))
 
+-- What an answer says of the segments of a run: whether the fields of all pass, which question 10 asks first, and then whether each has a sink or branches.
+abbrev pub fields_pass : {A : Type 0} → Result A Refusal → Bool
+fields_pass r = not (eqb (refusal_number r) 10)
+
+abbrev pub ends_pass : {A : Type 0} → Result A Refusal → Bool
+ends_pass r = eqb (refusal_number r) 0
+
 -- Where among all records the segments start.
 abbrev pub first_segment : Counts → ℕ
 first_segment c = c.widths + c.sizes + c.stages
-
--- Is the first test above passed by each segment of a job, and has each a sink or branches?
-abbrev pub all_fit : Counts → List ℕ → Bool
-all_fit c b = every c.segments (segment_fits b c (first_segment c))
-
-abbrev pub all_end : Counts → List ℕ → List ℕ → Bool
-all_end c b first = every c.segments (sink_or_branch b first (first_segment c) c.segments)
-
--- The number of the first of the two that fails, as question 10 or 11, or 0.
-abbrev pub segments_number : Counts → List ℕ → List ℕ → ℕ
-segments_number c b first = cond (all_fit c b) (cond (all_end c b first) 0 11) 10

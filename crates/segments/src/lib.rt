@@ -4,9 +4,10 @@
 ghost use Rattle.std.specs.Prelude.{◌≡◌, true, ◌&&◌, ◌-◌, ◌<◌, ◌≤◌, length};
 ghost use Rattle.lattice.specs.Lists.{every};
 ghost use Rattle.refusal.specs.Numbers.{refusal_number};
-ghost use Rattle.segments.specs.Tests.{first_segment, all_fit, segments_number, OwnWeights, branched, site_branched, sites_rise};
+ghost use Rattle.segments.specs.Tests.{fields_pass, ends_pass, all_fit, all_end, segments_number, OwnWeights, branched, site_branched, sites_rise};
 
-use job::{Records, Run};
+use job::Run;
+use net::Counts;
 use refusal::Refusal;
 
 // Are the fields of each segment in range, capacitance and weight 0 where there is no sink, and lowest ≤ highest < count of widths of its layer?
@@ -14,15 +15,18 @@ use refusal::Refusal;
 // for both; fields that do not fit end the loop, since question 10 is asked first. The weight is read here, so its byte is put into the table of the
 // sinks' weights here too.
 pub fn segments_fit(
-    records: &Records<'_>,
+    run: &Run<'_>,
+    counts: Counts,
     first: &[usize],
     weights: &mut [u8; 64],
 ) -> Result<(), Refusal>
-    requires { (records.now.counts.segments < length first.now) × (records.now.counts.segments ≤ 64) }
-    ensures number { refusal_number result ≡ segments_number records.now.counts records.now.bytes.now first.now }
-    ensures weights { all_fit records.now.counts records.now.bytes.now ≡ true → OwnWeights records.now.bytes.now (first_segment records.now.counts) records.now.counts.segments weights.new }
+    requires layers { counts.layer0 ≤ counts.widths }
+    requires in_bounds { (run.now.count < length first.now) × (run.now.count ≤ 64) }
+    ensures fields { fields_pass result ≡ all_fit run.now.bytes.now counts run.now.start run.now.count }
+    ensures ends { fields_pass result ≡ true → ends_pass result ≡ all_end run.now.bytes.now first.now run.now.start run.now.count }
+    ensures number { refusal_number result ≡ segments_number run.now.bytes.now counts first.now run.now.start run.now.count }
+    ensures weights { fields_pass result ≡ true → OwnWeights run.now.bytes.now run.now.start run.now.count weights.new }
 {
-    let run = records.segments();
     let mut ends = true;
     for k in 0..run.count {
         let sink = run.byte(k, 3);
@@ -31,7 +35,7 @@ pub fn segments_fit(
         let weight = run.byte(k, 12);
         let lowest = run.byte(k, 13);
         let highest = run.byte(k, 14);
-        let widths = records.widths_of(run.byte(k, 15));
+        let widths = job::widths_of(counts, run.byte(k, 15));
         let within = (sink <= 1) & ((1 <= length) & (length <= 1000) & (capacitance <= 100000));
         let none = (sink != 0) | ((capacitance == 0) & (weight == 0));
         let range = (lowest <= highest) & (highest < widths);

@@ -9,7 +9,7 @@ ghost use Rattle.net.specs.Checked.{WeightFits, SinkWeights};
 ghost use Rattle.sinks.specs.Told.{CountOf, WeightOf, SinkOf};
 ghost use Rattle.sinks.specs.Loaded.{accepted, LoadedTo};
 
-use job::Records;
+use job::{AllRecords, Records};
 use quantity::Capacitance;
 use std::num::{f64_from_bits_with_nan, saturating_f64_to_u8};
 
@@ -39,41 +39,41 @@ fn count(sink: Sink) -> Option<u8>
 }
 
 // A byte of weight record w.
-fn weight_byte(records: &Records<'_>, w: usize, at: usize) -> usize
-    requires { (w < records.now.weights) × (at < 16) }
-    ensures { (result ≡ byte records.now.bytes.now (weight_at records.now.counts w + at)) × (result < 256) }
+fn weight_byte(all: &AllRecords<'_>, w: usize, at: usize) -> usize
+    requires { (w < all.now.weights) × (at < 16) }
+    ensures { (result ≡ byte all.now.records.bytes.now (weight_at all.now.records.counts w + at)) × (result < 256) }
 {
-    records.weights().byte(w, at)
+    all.weights().byte(w, at)
 }
 
 // A word of weight record w.
-fn weight_word(records: &Records<'_>, w: usize, at: usize) -> u64
-    requires { (w < records.now.weights) × (at ≤ 12) }
-    ensures { (result ≡ word records.now.bytes.now (weight_at records.now.counts w + at)) × (result < 2 ^ 32) }
+fn weight_word(all: &AllRecords<'_>, w: usize, at: usize) -> u64
+    requires { (w < all.now.weights) × (at ≤ 12) }
+    ensures { (result ≡ word all.now.records.bytes.now (weight_at all.now.records.counts w + at)) × (result < 2 ^ 32) }
 {
-    let run = records.weights();
+    let run = all.weights();
     job::word_at(run.bytes, 16 * (run.start + w) + at)
 }
 
 // The fraction of weight record w.
-fn fraction(records: &Records<'_>, w: usize) -> f64
-    requires { w < records.now.weights }
-    ensures { result ≡ from_bits binary64 (weight_bits records.now.counts records.now.bytes.now w) }
+fn fraction(all: &AllRecords<'_>, w: usize) -> f64
+    requires { w < all.now.weights }
+    ensures { result ≡ from_bits binary64 (weight_bits all.now.records.counts all.now.records.bytes.now w) }
 {
-    let low = weight_word(records, w, 8);
-    let high = weight_word(records, w, 12);
+    let low = weight_word(all, w, 8);
+    let high = weight_word(all, w, 12);
     f64_from_bits_with_nan(low + 4294967296 * high)
 }
 
 // The weight that weight record w has.
-fn weight_of(records: &Records<'_>, w: usize) -> Weight
-    requires readable { w < records.now.weights }
-    requires fits { WeightFits records.now.counts records.now.bytes.now w }
-    ensures { WeightOf records.now.counts records.now.bytes.now w result }
+fn weight_of(all: &AllRecords<'_>, w: usize) -> Weight
+    requires readable { w < all.now.weights }
+    requires fits { WeightFits all.now.records.counts all.now.records.bytes.now w }
+    ensures { WeightOf all.now.records.counts all.now.records.bytes.now w result }
 {
-    match weight_byte(records, w, 2) {
-        1 => Weight::Whole(weight_word(records, w, 4) as u8),
-        2 => Weight::Fraction(fraction(records, w)),
+    match weight_byte(all, w, 2) {
+        1 => Weight::Whole(weight_word(all, w, 4) as u8),
+        2 => Weight::Fraction(fraction(all, w)),
         _ => Weight::Absent,
     }
 }
@@ -85,22 +85,22 @@ fn entry(records: &Records<'_>, i: usize, weight: f64) -> Sink
 {
     Sink {
         weight,
-        capacitance: Capacitance(records.segments().word(i, 8) as u64),
+        capacitance: records.sink(i),
     }
 }
 
 // Puts what weight record w counts, where it has a weight, at its segment. Is its fraction, where it has one, accepted?
-fn load_one(records: &Records<'_>, w: usize, weights: &mut [u8; 64]) -> bool
-    requires few { records.now.counts.segments ≤ 64 }
-    requires readable { w < records.now.weights }
-    requires fits { WeightFits records.now.counts records.now.bytes.now w }
-    requires loaded_to { LoadedTo records.now.counts records.now.bytes.now w weights.old }
-    ensures asked { result ≡ accepted records.now.counts records.now.bytes.now w }
-    ensures loaded { result ≡ true → LoadedTo records.now.counts records.now.bytes.now (suc w) weights.new }
+fn load_one(all: &AllRecords<'_>, w: usize, weights: &mut [u8; 64]) -> bool
+    requires few { all.now.records.counts.segments ≤ 64 }
+    requires readable { w < all.now.weights }
+    requires fits { WeightFits all.now.records.counts all.now.records.bytes.now w }
+    requires loaded_to { LoadedTo all.now.records.counts all.now.records.bytes.now w weights.old }
+    ensures asked { result ≡ accepted all.now.records.counts all.now.records.bytes.now w }
+    ensures loaded { result ≡ true → LoadedTo all.now.records.counts all.now.records.bytes.now (suc w) weights.new }
 {
-    let i = weight_byte(records, w, 1);
-    match weight_of(records, w) {
-        Weight::Fraction(x) => match count(entry(records, i, x)) {
+    let i = weight_byte(all, w, 1);
+    match weight_of(all, w) {
+        Weight::Fraction(x) => match count(entry(&all.records, i, x)) {
             Some(k) => {
                 weights[i] = k;
                 true
@@ -117,15 +117,15 @@ fn load_one(records: &Records<'_>, w: usize, weights: &mut [u8; 64]) -> bool
 
 // Question 21: is 256 times each fraction a whole number from 0 to 255? `weights` has each segment's own byte before, and where the question passes the
 // weight of each segment's sink afterwards. A fraction that fails ends the loop.
-pub fn load(records: &Records<'_>, weights: &mut [u8; 64]) -> bool
-    requires few { records.now.counts.segments ≤ 64 }
-    requires fit { question20 records.now.counts records.now.bytes.now ≡ true }
-    requires loaded_to { LoadedTo records.now.counts records.now.bytes.now 0 weights.old }
-    ensures asked { result ≡ question21 records.now.counts records.now.bytes.now }
-    ensures loaded { result ≡ true → SinkWeights records.now.counts records.now.bytes.now weights.new }
+pub fn load(all: &AllRecords<'_>, weights: &mut [u8; 64]) -> bool
+    requires few { all.now.records.counts.segments ≤ 64 }
+    requires fit { question20 all.now.records.counts all.now.records.bytes.now ≡ true }
+    requires loaded_to { LoadedTo all.now.records.counts all.now.records.bytes.now 0 weights.old }
+    ensures asked { result ≡ question21 all.now.records.counts all.now.records.bytes.now }
+    ensures loaded { result ≡ true → SinkWeights all.now.records.counts all.now.records.bytes.now weights.new }
 {
-    for w in 0..records.weights {
-        if !load_one(records, w, weights) {
+    for w in 0..all.weights {
+        if !load_one(all, w, weights) {
             return false;
         }
     }

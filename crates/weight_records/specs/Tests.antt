@@ -2,7 +2,6 @@
 use Rattle.std.specs.Prelude.{Bool, not, ◌&&◌, ◌||◌, List, ℕ, ◌+◌, leb, ltb, eqb}
 use Rattle.net.specs.declared.Counts.{Counts}
 use Rattle.net.specs.Job.{places_by}
-use Rattle.segments.specs.Tests.{first_segment}
 use Rattle.job.specs.Runs.{byte_of, word_of}
 
 module _ (b : List ℕ) where
@@ -25,9 +24,9 @@ module _ (b : List ℕ) where
 abbrev pub first_weight : Counts → ℕ
 first_weight c = c.widths + c.sizes + places_by c
 
--- Is the segment of weight record k of a job there, has it a sink, is the form at most 2, and a whole number at most 255?
-abbrev pub weight_fits : Counts → List ℕ → ℕ → Bool
-weight_fits c b k =
-    let start : ℕ = first_weight c in
+-- Is the segment of record k of a run of weight records one of n, which stand from the record `first` of s on, has it a sink, is the form at most 2, and a
+-- whole number at most 255?
+abbrev pub weight_fits : (s : List ℕ) (first n : ℕ) (b : List ℕ) (start k : ℕ) → Bool
+weight_fits s first n b start k =
     let form : ℕ = byte_of b start 2 k in
-    sink_there b (first_segment c) c.segments (byte_of b start 1 k) && (leb form 2 && (not (eqb form 1) || leb (word_of b start 4 k) 255))
+    sink_there s first n (byte_of b start 1 k) && (leb form 2 && (not (eqb form 1) || leb (word_of b start 4 k) 255))

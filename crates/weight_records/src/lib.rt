@@ -5,7 +5,7 @@ ghost use Rattle.std.specs.Prelude.{◌≡◌, ◌-◌};
 ghost use Rattle.lattice.specs.Lists.{every};
 ghost use Rattle.weight_records.specs.Tests.{segments_rise, unnamed_zero, sink_there, weight_fits};
 
-use job::{Records, Run};
+use job::Run;
 
 // Does the number of the segment strictly rise from each record to the next?
 pub fn segments_rise(weights: &Run<'_>) -> bool
@@ -37,17 +37,15 @@ fn has_sink(segments: &Run<'_>, i: usize) -> bool
     i < segments.count && segments.byte(i, 3) != 0
 }
 
-// Is the segment of each weight record there, has it a sink, is the form at most 2, and a whole number at most 255?
-pub fn weights_fit(records: &Records<'_>) -> bool
-    ensures { result ≡ every records.now.weights (weight_fits records.now.counts records.now.bytes.now) }
+// Is the segment of each weight record one of the segments, has it a sink, is the form at most 2, and a whole number at most 255?
+pub fn weights_fit(segments: &Run<'_>, weights: &Run<'_>) -> bool
+    ensures { result ≡ every weights.now.count (weight_fits segments.now.bytes.now segments.now.start segments.now.count weights.now.bytes.now weights.now.start) }
 {
-    let segments = records.segments();
-    let weights = records.weights();
     (0..weights.count).all(|k| {
         let segment = weights.byte(k, 1);
         let form = weights.byte(k, 2);
         let whole = weights.word(k, 4);
         let number = (form != 1) | (whole <= 255);
-        has_sink(&segments, segment) & ((form <= 2) & number)
+        has_sink(segments, segment) & ((form <= 2) & number)
     })
 }

@@ -5,5 +5,5 @@ use Rattle.asked.proofs.question4.Goals as goal
 
 pub returns : goal.returns
 returns c =
-    let a = c.args.records.now in
-    cc (question4-by a.counts a.bytes.now a.weights_held.counted refl refl refl refl refl refl refl)
+    let a = c.args.all.now in
+    cc (question4-by a.records.counts a.records.bytes.now a.weights_held.counted refl refl refl refl refl refl refl)

@@ -9,7 +9,7 @@ pub returns : goal.returns
 returns c =
     let widths = c.widths-widths.ensures in
     let stages = c.stages-run.ensures in
-    question5-by _ _ c.args.records.now.weights_held.counted
+    question5-by _ _ c.args.all.now.weights_held.counted
     (of-run (zeros 3 1) widths c.bytes_zero-before.ensures)
     (of-run (words 12 0 0) widths c.within-behind.ensures)
     (of-run (zeros 2 2) c.sizes.ensures c.bytes_zero-sizes.ensures)

@@ -4,7 +4,7 @@ use Prim.Native.Nat.{suc, ◌-◌}
 use native.Mathlib.Omega.{arith}
 use lib.ListN.{length-set}
 use Rattle.net.specs.Net.{net_by}
-use Rattle.links.proofs.Linking.{linking-start, linking-step, linking-end, parent-read, parent-behind, parents-before}
+use Rattle.links.proofs.Linking.{linking-start, linking-step, linking-end, parent-behind, parents-before}
 use Rattle.links.proofs.link.Goals as goal
 
 pub loop-j-init : goal.loop-j-init
@@ -15,7 +15,7 @@ loop-j-init c =
 pub returns-then-j-parent-clause-asked : goal.returns-then-j-parent-clause-asked
 returns-then-j-parent-clause-asked c =
     let s = c.args.records.now in
-    parent-behind s.counts s.bytes.now (omega arith) (parent-read s.counts s.bytes.now _ _ c.segments-segments.ensures c.byte-parent.ensures.0) c.if-j-parent.true
+    parent-behind s.counts s.bytes.now (omega arith) c.parent-parent.ensures c.if-j-parent.true
 
 pub returns-then-j-parent-clause-lengths : goal.returns-then-j-parent-clause-lengths
 returns-then-j-parent-clause-lengths c = (c.loop-j.invariant.0.0 ∙ c.unlink.ensures.same, c.loop-j.invariant.0.1)
@@ -26,7 +26,7 @@ loop-j-preserved c =
     let l = c.loop-j in
     let i = l.j - 1 in
     let e : l.j ≡ suc i = omega arith in
-    let p = parent-read s.counts s.bytes.now i _ c.segments-segments.ensures c.byte-parent.ensures.0 in (
+    let p = c.parent-parent.ensures in (
       (simp length-set l.invariant.0.0, simp length-set l.invariant.0.1),
       rw p (linking-step (net_by s.counts s.bytes.now) l.first l.next i (omega arith) (omega arith) (rw e at l.invariant.1)),
     )

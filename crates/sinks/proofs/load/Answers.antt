@@ -10,11 +10,11 @@ loop-w-init c = (begins _ _, c.requires.loaded_to)
 
 pub load_one-requires-clause-fits : goal.load_one-requires-clause-fits
 load_one-requires-clause-fits c =
-    let s = c.args.records.now in
-    weights-fit s.counts s.bytes.now (rw c.requires.fit tt) c.loop-w.w (omega (arith, s.weights_held.counted))
+    let s = c.args.all.now in
+    weights-fit s.records.counts s.records.bytes.now (rw c.requires.fit tt) c.loop-w.w (omega (arith, s.weights_held.counted))
 
 pub returns-then-not-load_one-clause-asked : goal.returns-then-not-load_one-clause-asked
-returns-then-not-load_one-clause-asked c = stops c.loop-w.invariant.0 c.loop-w-test.true c.load_one.ensures.asked (ap not c.if-not-load_one.true) ∙ asks-all _ _ c.args.records.now.weights_held.counted
+returns-then-not-load_one-clause-asked c = stops c.loop-w.invariant.0 c.loop-w-test.true c.load_one.ensures.asked (ap not c.if-not-load_one.true) ∙ asks-all _ _ c.args.all.now.weights_held.counted
 
 pub loop-w-preserved : goal.loop-w-preserved
 loop-w-preserved c =
@@ -27,4 +27,4 @@ pub returns : goal.returns
 returns c =
     let l = c.loop-w in
     let e = le_antisymm l.invariant.0.within (omega arith) in
-    record { asked = ends l.invariant.0 (omega arith) ∙ asks-all _ _ c.args.records.now.weights_held.counted; loaded = λ t. all-loaded c.args.records.now.weights_held.counted (rw e at l.invariant.1) }
+    record { asked = ends l.invariant.0 (omega arith) ∙ asks-all _ _ c.args.all.now.weights_held.counted; loaded = λ t. all-loaded c.args.all.now.weights_held.counted (rw e at l.invariant.1) }

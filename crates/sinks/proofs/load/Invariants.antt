@@ -4,4 +4,4 @@ use Rattle.sinks.specs.Loaded.{accepted, LoadedTo}
 use Rattle.sinks.proofs.load.Given as goal
 
 abbrev pub invariant-loop-w : goal.invariant-loop-w
-invariant-loop-w l = Going l.records.weights (accepted l.records.counts l.records.bytes.now) l.w × LoadedTo l.records.counts l.records.bytes.now l.w l.weights
+invariant-loop-w l = Going l.all.weights (accepted l.all.records.counts l.all.records.bytes.now) l.w × LoadedTo l.all.records.counts l.all.records.bytes.now l.w l.weights

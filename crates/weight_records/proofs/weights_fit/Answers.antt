@@ -5,4 +5,4 @@ use Rattle.runs.proofs.All.{every-below}
 use Rattle.weight_records.proofs.weights_fit.Goals as goal
 
 pub returns : goal.returns
-returns c = rw (← c.weights-weights.ensures.count) (every-below c.all.ensures.ran (λ k q t. search (rules, tests)) (λ k q t. search (rules, tests)))
+returns c = every-below c.all.ensures.ran (λ k q t. search (rules, tests)) (λ k q t. search (rules, tests))

@@ -1,8 +1,8 @@
--- `Job::first_row` meets its contract: the rows of layer 1 come behind those of layer 0.
+-- `Records::first_row` meets its contract: the rows of layer 1 come behind those of layer 0.
 use Rattle.std.proofs.Common.{◌≡◌, ◌+◌, sym, ◌∙◌}
 use Rattle.net.specs.Job.{byte, place_at}
 use Rattle.net.proofs.Records.{layer-0, layer-1}
-use Rattle.job.proofs.Job.first_row.Goals as goal
+use Rattle.job.proofs.counted.Records.first_row.Goals as goal
 
 pub returns-then-place_byte-eq0 : goal.returns-then-place_byte-eq0
 returns-then-place_byte-eq0 c =

@@ -1,8 +1,8 @@
--- `Job::range` meets its contract: the bytes are those of the place's kind.
+-- `Records::range` meets its contract: the bytes are those of the place's kind.
 use Rattle.std.proofs.Common.{ℕ, ◌+◌, ap, ◌∙◌}
 use Rattle.net.specs.Job.{byte, place_at}
 use Rattle.job.proofs.Ranges.{range-held}
-use Rattle.job.proofs.Job.range.Goals as goal
+use Rattle.job.proofs.counted.Records.range.Goals as goal
 
 pub returns : goal.returns
 returns c =
