@@ -13,7 +13,7 @@ mod around;
 use around::Tree;
 use place::Spot;
 use quantity::{Capacitance, Delay, Resistance};
-use stages::SizedJob;
+use stages::WeighedJob;
 
 // The smallest and the largest best index at a place, and the scaled delay of the sizing with either of them put there.
 #[derive(Clone, Copy)]
@@ -23,7 +23,7 @@ pub struct EndsAndDelay {
     pub delay: Delay,
 }
 
-impl Tree<'_> {
+impl Tree<'_, '_, '_> {
     // The place that drives place p, which is not the first stage. A segment is driven by the last stage where it hangs at the source, and otherwise by
     // the repeater at the far end that it hangs at, or by the segment there.
     fn drives(&self, p: usize) -> usize
@@ -60,7 +60,7 @@ impl Tree<'_> {
         }
         let i = p - job.counts.stages;
         if i < job.counts.segments {
-            return u64::from(self.net.weights[i]) + self.nodes[i + 1].weight;
+            return u64::from(self.weights[i]) + self.nodes[i + 1].weight;
         }
         let site = job.site(i - job.counts.segments);
         2 * self.nodes[site + 1].weight
@@ -105,28 +105,31 @@ impl Tree<'_> {
 
 // The best indices at a place of an allowed sizing, and the delay that they reach. With the index at the place the delay changes as what the index
 // costs there, so the net is not evaluated for each.
-pub fn refine_at(net: &SizedJob<'_>, place: usize) -> EndsAndDelay
-    requires allowed_by { AllowedBy net.now.job.counts net.now.job.bytes.now net.now.sizing.now }
-    requires place_bound { place < places_by net.now.job.counts }
-    ensures { ReachedBy net.now.job.counts net.now.job.bytes.now net.now.sizing.now place result }
+pub fn refine_at(net: &WeighedJob<'_, '_, '_>, place: usize) -> EndsAndDelay
+    requires allowed_by { AllowedBy net.now.sized.job.counts net.now.sized.job.bytes.now net.now.sized.sizing.now }
+    requires place_bound { place < places_by net.now.sized.job.counts }
+    ensures { ReachedBy net.now.sized.job.counts net.now.sized.job.bytes.now net.now.sized.sizing.now place result }
 {
-    let job = &net.job;
+    let job = &net.sized.job;
     let mut seats = [None; 64];
     parts::seat(job, &mut seats);
     let mut nodes = [parts::NOTHING; 65];
     nodes::count_up(net, &seats, &mut nodes);
     let tree = Tree {
-        net: &*net,
+        net: &net.sized,
+        weights: net.weights,
         seats: &seats,
         nodes: &nodes,
     };
-    let lent = parts::behind_stages(net, nodes[0]).delay;
+    let lent = parts::behind_stages(&net.sized, nodes[0]).delay;
     let weight = tree.weight_at(place);
     let load = tree.driven_at(place);
     let before = tree.upstream_of(place);
     let ends = refine::settle(job, weight, before, place, load);
     let spot = Spot::new(job, weight, before, place);
-    let own = spot.step(job, usize::from(net.sizing[place]), load).delay;
+    let own = spot
+        .step(job, usize::from(net.sized.sizing[place]), load)
+        .delay;
     EndsAndDelay {
         lowest: ends.lowest,
         highest: ends.highest,

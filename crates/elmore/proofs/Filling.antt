@@ -1,4 +1,4 @@
--- How the table of parts is filled, from the last repeater to the first, and that the tables serve the walk.
+-- How the table of segments is filled, and that of parts, from the last repeater to the first, and that the tables serve the walk.
 use mathlib.Core.Path.{◌≡◌, ap, ◌∙◌}
 use mathlib.Core.Logic.{◌⊎◌, inl, inr}
 use mathlib.Core.List.{List}
@@ -18,13 +18,23 @@ use Rattle.links.specs.Links.{First, LinkedBy, siblings}
 use Rattle.links.proofs.Siblings.{first-behind}
 use Rattle.parts.specs.declared.Part.{Part}
 use Rattle.parts.specs.declared.PartAndCharge.{PartAndCharge}
+use Rattle.parts.specs.declared.Segment.{Segment}
 use Rattle.stages.specs.Ready.{Ready}
 use Rattle.parts.specs.Entries.{nothing, part_at}
+use Rattle.parts.specs.Step.{Fields}
 use Rattle.parts.specs.Tally.{branches_of, Tally, Hanging, RepeatedOf}
-use Rattle.elmore.specs.Tables.{PartsFrom, PartsBehind}
+use Rattle.elmore.specs.Tables.{segment_at, SizedTo, PartsFrom, PartsBehind}
 use Rattle.elmore.proofs.Passing.{node-tally, below-tally}
 
 module _ (net : Net) (x : List ℕ) where
+  -- segment i is next
+  pub sized-step : (t : List Segment) (i : ℕ) (s : Segment) → i < 64 → Fields net x i s → SizedTo net x i t → SizedTo net x (i + 1) (set t i s)
+  sized-step t i s h f z = record { long = length-set t i s ∙ z.long; held = λ k l. go k (eq-or-lt_of_le (omega arith)) }
+    where
+      go : (k : ℕ) → (k ≡ i) ⊎ (k < i) → Fields net x k (segment_at (set t i s) k)
+      go k (inl e) = rw (e, get_or-set_same t i s _ (omega (arith, z.long))) f
+      go k (inr l) = rw (get_or-set_other t i k s _ (λ e. omega arith)) (z.held k l)
+
   -- The repeaters from t on are gone through: what hangs at their segments is in the table, and `all` is what they charge.
   pub record RepeatedFrom (t : ℕ) (table : List Part) (all : ℕ) : Type 0 where
     pub within : t ≤ net.repeaters

@@ -15,7 +15,7 @@ use job::Wire;
 use links::Links;
 use parts::{NOTHING, Part, PartAndCharge, Segment};
 use quantity::{Capacitance, Delay, Resistance};
-use stages::{DelayAndLoad, SizedJob};
+use stages::{DelayAndLoad, WeighedJob};
 use tables::Walk;
 
 // A segment that is not sized yet.
@@ -29,15 +29,15 @@ const UNSIZED: Segment = Segment {
 };
 
 // The segments, as the sizing has them: the walk over the tree then reads no job. The table is lent, because one that is returned is copied.
-fn size_segments(net: &SizedJob<'_>, segments: &mut [Segment; 64])
-    ensures { SizedTo (net_by net.now.job.counts net.now.job.bytes.now) net.now.sizing.now net.now.job.counts.segments segments.new }
+fn size_segments(net: &WeighedJob<'_, '_, '_>, segments: &mut [Segment; 64])
+    ensures { SizedTo (net_by net.now.sized.job.counts net.now.sized.job.bytes.now) net.now.sized.sizing.now net.now.sized.job.counts.segments segments.new }
 {
-    for i in 0..net.job.counts.segments {
+    for i in 0..net.sized.job.counts.segments {
         segments[i] = parts::sized(net, i);
     }
 }
 
-impl Walk<'_> {
+impl Walk<'_, '_, '_> {
     // Segment i and all below it. Where nothing is below it no call is made, because half of a tree's segments are such; where a repeater sits at its
     // far end, what hangs there is in the table, and the branches behind it are not walked.
     #[cycle(branch_branches)]
@@ -92,16 +92,16 @@ impl Walk<'_> {
 }
 
 // The whole tree: the branches at the source, and what all repeaters charge.
-fn whole(net: &SizedJob<'_>, links: &Links) -> PartAndCharge
-    requires { LinkedBy net.now.job.counts net.now.job.bytes.now links.now.first links.now.next }
-    ensures { WholeOf (net_by net.now.job.counts net.now.job.bytes.now) net.now.sizing.now result }
+fn whole(net: &WeighedJob<'_, '_, '_>, links: &Links) -> PartAndCharge
+    requires { LinkedBy net.now.sized.job.counts net.now.sized.job.bytes.now links.now.first links.now.next }
+    ensures { WholeOf (net_by net.now.sized.job.counts net.now.sized.job.bytes.now) net.now.sized.sizing.now result }
 {
     let mut segments = [UNSIZED; 64];
     size_segments(net, &mut segments);
     let mut seats = [None; 64];
-    parts::seat(&net.job, &mut seats);
+    parts::seat(&net.sized.job, &mut seats);
     let mut walk = Walk {
-        net: &*net,
+        net: &net.sized,
         links: &*links,
         segments: &segments,
         seats: &seats,
@@ -116,12 +116,12 @@ fn whole(net: &SizedJob<'_>, links: &Links) -> PartAndCharge
 
 // The scaled delay and the load figure of a sizing. The figure is what the stages and the repeaters charge: each gate but the first, and all of the
 // tree, is driven by one.
-pub fn figures(net: &SizedJob<'_>, links: &Links) -> DelayAndLoad
-    requires linked_by { LinkedBy net.now.job.counts net.now.job.bytes.now links.now.first links.now.next }
-    ensures { FiguresOf (net_by net.now.job.counts net.now.job.bytes.now) net.now.sizing.now result }
+pub fn figures(net: &WeighedJob<'_, '_, '_>, links: &Links) -> DelayAndLoad
+    requires linked_by { LinkedBy net.now.sized.job.counts net.now.sized.job.bytes.now links.now.first links.now.next }
+    ensures { FiguresOf (net_by net.now.sized.job.counts net.now.sized.job.bytes.now) net.now.sized.sizing.now result }
 {
     let tree = whole(net, links);
-    let chain = parts::behind_stages(net, tree.part);
+    let chain = parts::behind_stages(&net.sized, tree.part);
     DelayAndLoad {
         delay: chain.delay,
         load: chain.load + tree.charge,
@@ -129,9 +129,9 @@ pub fn figures(net: &SizedJob<'_>, links: &Links) -> DelayAndLoad
 }
 
 // The scaled delay of a sizing.
-pub fn delay(net: &SizedJob<'_>, links: &Links) -> Delay
-    requires linked_by { LinkedBy net.now.job.counts net.now.job.bytes.now links.now.first links.now.next }
-    ensures { result.0 ≡ delay_of (net_by net.now.job.counts net.now.job.bytes.now) net.now.sizing.now }
+pub fn delay(net: &WeighedJob<'_, '_, '_>, links: &Links) -> Delay
+    requires linked_by { LinkedBy net.now.sized.job.counts net.now.sized.job.bytes.now links.now.first links.now.next }
+    ensures { result.0 ≡ delay_of (net_by net.now.sized.job.counts net.now.sized.job.bytes.now) net.now.sized.sizing.now }
 {
     figures(net, links).delay
 }

@@ -11,8 +11,8 @@ use stages::SizedJob;
 // The tables of a sized job, which a walk over its tree reads in place of the job: by segment what it has at its width, and which repeater sits at its
 // far end; by repeater what hangs at its segment, as far as it is counted up.
 #[derive(Drop)]
-pub struct Walk<'w> {
-    pub net: &'w SizedJob<'w>,
+pub struct Walk<'j, 's, 'w> {
+    pub net: &'w SizedJob<'j, 's>,
     pub links: &'w Links,
     pub segments: &'w [Segment; 64],
     pub seats: &'w [Option<u8>; 64],

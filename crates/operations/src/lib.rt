@@ -8,7 +8,7 @@ ghost use Rattle.operations.specs.Outcomes.{measured_by, refined_by, Preferred, 
 use best::EndsAndDelay;
 use links::Links;
 use refusal::{Refusal, require};
-use stages::{DelayAndLoad, SizedJob};
+use stages::{DelayAndLoad, SizedJob, WeighedJob};
 
 // Which of two sizings choose hands back, and how many bytes of it.
 #[derive(Clone, Copy)]
@@ -25,10 +25,12 @@ pub fn measure(job: &[u8], sizing: &[u8]) -> Result<DelayAndLoad, Refusal>
     let mut weights = [0u8; 64];
     let checked = questions::check(job, &mut links.first, &mut links.next, &mut weights)?.job;
     allowed::check_sizing(&checked, sizing)?;
-    let net = SizedJob {
-        job: checked,
+    let net = WeighedJob {
+        sized: SizedJob {
+            job: checked,
+            sizing,
+        },
         weights: &weights,
-        sizing,
     };
     Ok(elmore::figures(&net, &links))
 }
@@ -43,10 +45,12 @@ pub fn refine(job: &[u8], sizing: &[u8], place: usize) -> Result<EndsAndDelay, R
     allowed::check_sizing(&job, sizing)?;
     let places = job.places();
     require(place < places, Refusal::Place)?;
-    let net = SizedJob {
-        job,
+    let net = WeighedJob {
+        sized: SizedJob {
+            job,
+            sizing: &sizing[..places],
+        },
         weights: &weights,
-        sizing: &sizing[..places],
     };
     Ok(best::refine_at(&net, place))
 }
@@ -63,15 +67,13 @@ pub fn prefer(job: &[u8], x: &[u8], y: &[u8]) -> Option<Preference>
     allowed::check_sizing(&job, x).ok()?;
     allowed::check_sizing(&job, y).ok()?;
     let places = job.places();
-    let first = SizedJob {
-        job,
+    let first = WeighedJob {
+        sized: SizedJob { job, sizing: x },
         weights: &weights,
-        sizing: x,
     };
-    let second = SizedJob {
-        job,
+    let second = WeighedJob {
+        sized: SizedJob { job, sizing: y },
         weights: &weights,
-        sizing: y,
     };
     if elmore::delay(&first, &links) <= elmore::delay(&second, &links) {
         return Some(Preference::First(places));

@@ -10,7 +10,7 @@ ghost use Rattle.parts.specs.Tally.{branches_of, RepeatedOf, Tally, BehindStages
 
 use job::{Job, Wire};
 use quantity::{Capacitance, Delay};
-use stages::{DelayAndLoad, SizedJob};
+use stages::{DelayAndLoad, SizedJob, WeighedJob};
 use std::ops::Add;
 
 // A segment with its wire at the sizing's width.
@@ -86,17 +86,16 @@ impl Segment {
 }
 
 // Segment i, as the sizing has it.
-pub fn sized(net: &SizedJob<'_>, i: usize) -> Segment
-    requires { i < net.now.job.counts.segments }
-    ensures { Fields (net_by net.now.job.counts net.now.job.bytes.now) net.now.sizing.now i result }
+pub fn sized(net: &WeighedJob<'_, '_, '_>, i: usize) -> Segment
+    requires { i < net.now.sized.job.counts.segments }
+    ensures { Fields (net_by net.now.sized.job.counts net.now.sized.job.bytes.now) net.now.sized.sizing.now i result }
 {
-    let p = net.job.counts.stages + i;
+    let job = &net.sized.job;
+    let p = job.counts.stages + i;
     Segment {
         weight: u64::from(net.weights[i]),
-        sink: net.job.sink(i),
-        wire: net
-            .job
-            .wire(net.job.table(p), i, usize::from(net.sizing[p])),
+        sink: job.sink(i),
+        wire: job.wire(job.table(p), i, usize::from(net.sized.sizing[p])),
     }
 }
 
@@ -113,7 +112,7 @@ pub fn seat(job: &Job<'_>, seats: &mut [Option<u8>; 64])
 
 // The branches that repeater r drives, as they hang behind it: above it only its gate is seen, and each sink below it waits for it. And what it
 // charges.
-pub fn repeated(net: &SizedJob<'_>, r: usize, part: Part) -> PartAndCharge
+pub fn repeated(net: &SizedJob<'_, '_>, r: usize, part: Part) -> PartAndCharge
     requires r_lt_repeaters { r < net.now.job.counts.repeaters }
     requires tally { Tally (net_by net.now.job.counts net.now.job.bytes.now) net.now.sizing.now branches_of (suc ((net_by net.now.job.counts net.now.job.bytes.now).site r)) part }
     ensures { RepeatedOf (net_by net.now.job.counts net.now.job.bytes.now) net.now.sizing.now r result }
@@ -132,7 +131,7 @@ pub fn repeated(net: &SizedJob<'_>, r: usize, part: Part) -> PartAndCharge
 }
 
 // The scaled delay, where the branches at the source are counted up, and what the stages charge.
-pub fn behind_stages(net: &SizedJob<'_>, source: Part) -> DelayAndLoad
+pub fn behind_stages(net: &SizedJob<'_, '_>, source: Part) -> DelayAndLoad
     requires { Tally (net_by net.now.job.counts net.now.job.bytes.now) net.now.sizing.now branches_of 0 source }
     ensures { BehindStages (net_by net.now.job.counts net.now.job.bytes.now) net.now.sizing.now result }
 {

@@ -10,7 +10,7 @@ mod sized;
 
 use job::Job;
 use quantity::{Capacitance, Delay};
-pub use sized::SizedJob;
+pub use sized::{SizedJob, WeighedJob};
 
 // Of a sizing its scaled delay and its load figure; of a driver, or of all stages, what is contributed to every sink behind and what is charged.
 #[derive(Clone, Copy)]
@@ -32,7 +32,7 @@ pub fn driver(job: &Job<'_>, k: usize, load: Capacitance) -> DelayAndLoad
 }
 
 // What stage s drives, where the load of the whole tree is known.
-pub fn stage_load(net: &SizedJob<'_>, tree: Capacitance, s: usize) -> Capacitance
+pub fn stage_load(net: &SizedJob<'_, '_>, tree: Capacitance, s: usize) -> Capacitance
     requires tree_value { tree.0 ≡ branches_load (net_by net.now.job.counts net.now.job.bytes.now) net.now.sizing.now 0 }
     requires s_lt_stages { s < net.now.job.counts.stages }
     ensures { result.0 ≡ stage_load (net_by net.now.job.counts net.now.job.bytes.now) net.now.sizing.now s }
@@ -44,7 +44,7 @@ pub fn stage_load(net: &SizedJob<'_>, tree: Capacitance, s: usize) -> Capacitanc
 }
 
 // What stage s contributes to every sink, and what it charges.
-fn stage(net: &SizedJob<'_>, tree: Capacitance, s: usize) -> DelayAndLoad
+fn stage(net: &SizedJob<'_, '_>, tree: Capacitance, s: usize) -> DelayAndLoad
     requires tree_value { tree.0 ≡ branches_load (net_by net.now.job.counts net.now.job.bytes.now) net.now.sizing.now 0 }
     requires s_lt_stages { s < net.now.job.counts.stages }
     ensures { StageOf (net_by net.now.job.counts net.now.job.bytes.now) net.now.sizing.now s result }
@@ -54,7 +54,7 @@ fn stage(net: &SizedJob<'_>, tree: Capacitance, s: usize) -> DelayAndLoad
 }
 
 // What all stages contribute to every sink, and what they charge, in one pass.
-pub fn stages(net: &SizedJob<'_>, tree: Capacitance) -> DelayAndLoad
+pub fn stages(net: &SizedJob<'_, '_>, tree: Capacitance) -> DelayAndLoad
     requires { tree.0 ≡ branches_load (net_by net.now.job.counts net.now.job.bytes.now) net.now.sizing.now 0 }
     ensures { StagesOf (net_by net.now.job.counts net.now.job.bytes.now) net.now.sizing.now result }
 {

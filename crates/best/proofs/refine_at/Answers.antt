@@ -6,13 +6,13 @@ use Rattle.best.proofs.refine_at.Goals as goal
 pub settle-ends-requires : goal.settle-ends-requires
 settle-ends-requires c =
     let h = c.requires.place_bound in
-    let s = around-small c.args.net.now.job.checked _ c.requires.allowed_by _ h _ _ _ c.weight_at-weight.ensures c.upstream_of-before.ensures c.driven_at-load.ensures in
+    let s = around-small c.args.net.now.sized.job.checked _ c.requires.allowed_by _ h _ _ _ c.weight_at-weight.ensures c.upstream_of-before.ensures c.driven_at-load.ensures in
     (h, s.0, s.1, s.2)
 
 pub step-requires-clause-step_in_limits : goal.step-requires-clause-step_in_limits
 step-requires-clause-step_in_limits c =
     let h = c.requires.place_bound in
-    let k = c.args.net.now.job.checked in
+    let k = c.args.net.now.sized.job.checked in
     let a = c.requires.allowed_by in
     let s = around-small k _ a _ h _ _ _ c.weight_at-weight.ensures c.upstream_of-before.ensures c.driven_at-load.ensures in
     let i = index-small k _ a _ h _ _ _ c.weight_at-weight.ensures c.upstream_of-before.ensures c.driven_at-load.ensures in
@@ -21,12 +21,12 @@ step-requires-clause-step_in_limits c =
 pub exchange-requires : goal.exchange-requires
 exchange-requires c =
     let own = rw c.from.ensures at (spot-stepped c.new-spot.ensures c.step.ensures) in
-    let asks = exchange-asks c.args.net.now.job.checked _ c.requires.allowed_by _ c.requires.place_bound _ _ _ c.weight_at-weight.ensures c.upstream_of-before.ensures
+    let asks = exchange-asks c.args.net.now.sized.job.checked _ c.requires.allowed_by _ c.requires.place_bound _ _ _ c.weight_at-weight.ensures c.upstream_of-before.ensures
     c.driven_at-load.ensures _ c.settle-ends.ensures _ _ c.behind_stages.ensures.delay own.delay in
     record { whole_bound = (asks.0, asks.1); out_bound = (asks.2, asks.3) }
 
 pub returns : goal.returns
 returns c =
     let own = rw c.from.ensures at (spot-stepped c.new-spot.ensures c.step.ensures) in
-    reached c.args.net.now.job.checked _ c.requires.allowed_by _ c.requires.place_bound _ _ _ c.weight_at-weight.ensures c.upstream_of-before.ensures
+    reached c.args.net.now.sized.job.checked _ c.requires.allowed_by _ c.requires.place_bound _ _ _ c.weight_at-weight.ensures c.upstream_of-before.ensures
     c.driven_at-load.ensures _ c.settle-ends.ensures _ _ c.behind_stages.ensures.delay own.delay _ c.exchange.ensures.0

@@ -4,4 +4,4 @@ use Rattle.elmore.specs.Tables.{SizedTo}
 use Rattle.elmore.proofs.size_segments.Given as goal
 
 abbrev pub invariant-loop-i : goal.invariant-loop-i
-invariant-loop-i l = SizedTo (net_by l.net.job.counts l.net.job.bytes.now) l.net.sizing.now l.i l.segments
+invariant-loop-i l = SizedTo (net_by l.net.sized.job.counts l.net.sized.job.bytes.now) l.net.sized.sizing.now l.i l.segments

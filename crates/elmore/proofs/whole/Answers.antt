@@ -6,6 +6,6 @@ pub returns : goal.returns
 returns c =
     let charged = c.repeat_all-charge.ensures in
     record {
-      source = source-tally c.args.net.now.ready c.requires _ (rw charged.kept at c.branches.ensures);
+      source = source-tally c.args.net.now.sized.ready c.requires _ (rw charged.kept at c.branches.ensures);
       charge = rw charged.kept at charged.charge;
     }

@@ -3,7 +3,7 @@ use Rattle.parts.proofs.Tallies.{behind-room, behind-tally}
 use Rattle.nodes.proofs.branch.Goals as goal
 
 pub behind-requires : goal.behind-requires
-behind-requires c = behind-room c.args.net.now.ready c.args.i c.requires.i_lt_segments _ _ c.sized.ensures c.hanging-hangs.ensures
+behind-requires c = behind-room c.args.net.now.sized.ready c.args.i c.requires.i_lt_segments _ _ c.sized.ensures c.hanging-hangs.ensures
 
 pub returns : goal.returns
-returns c = behind-tally c.args.net.now.ready c.args.i c.requires.i_lt_segments _ _ c.sized.ensures c.hanging-hangs.ensures _ c.behind.ensures
+returns c = behind-tally c.args.net.now.sized.ready c.args.i c.requires.i_lt_segments _ _ c.sized.ensures c.hanging-hangs.ensures _ c.behind.ensures

@@ -4,4 +4,4 @@ use Rattle.nodes.proofs.Counting.{CountedFrom}
 use Rattle.nodes.proofs.count_up.Given as goal
 
 abbrev pub invariant-loop-i : goal.invariant-loop-i
-invariant-loop-i l = CountedFrom (net_by l.net.job.counts l.net.job.bytes.now) l.net.sizing.now l.i l.nodes
+invariant-loop-i l = CountedFrom (net_by l.net.sized.job.counts l.net.sized.job.bytes.now) l.net.sized.sizing.now l.i l.nodes

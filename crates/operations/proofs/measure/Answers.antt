@@ -21,11 +21,7 @@ returns-in_err-check_sizing c =
 pub invariant_of-net : goal.invariant_of-net
 invariant_of-net c =
     let j = c.in_ok-checked.field-0.job in
-    let k = c.in_ok-checked.ensures in
-    record {
-      ready = record { checked = j.checked; in_ranges = number-ranges _ c.args.sizing.now (sym c.in_ok-check_sizing.ensures) };
-      weighed = k.passed.weighed;
-    }
+    record { ready = record { checked = j.checked; in_ranges = number-ranges _ c.args.sizing.now (sym c.in_ok-check_sizing.ensures) } }
 
 pub returns : goal.returns
 returns c =

@@ -33,22 +33,14 @@ returns-in_err-ok-2 c =
 pub invariant_of-first : goal.invariant_of-first
 invariant_of-first c =
     let j = c.in_ok-job.field-0.job in
-    let k = rw (was_ok c.check.result c.in_ok-job.field-0 c.in_ok-job.ensures.value) at c.check.ensures in
     let e = rw (was_ok c.check_sizing.result c.in_ok-ok.field-0 c.in_ok-ok.ensures.value) at c.check_sizing.ensures in
-    record {
-      ready = record { checked = j.checked; in_ranges = number-ranges _ c.args.x.now (sym e) };
-      weighed = k.passed.weighed;
-    }
+    record { ready = record { checked = j.checked; in_ranges = number-ranges _ c.args.x.now (sym e) } }
 
 pub invariant_of-second : goal.invariant_of-second
 invariant_of-second c =
     let j = c.in_ok-job.field-0.job in
-    let k = rw (was_ok c.check.result c.in_ok-job.field-0 c.in_ok-job.ensures.value) at c.check.ensures in
     let e = rw (was_ok c.check_sizing-2.result c.in_ok-ok-2.field-0 c.in_ok-ok-2.ensures.value) at c.check_sizing-2.ensures in
-    record {
-      ready = record { checked = j.checked; in_ranges = number-ranges _ c.args.y.now (sym e) };
-      weighed = k.passed.weighed;
-    }
+    record { ready = record { checked = j.checked; in_ranges = number-ranges _ c.args.y.now (sym e) } }
 
 pub returns-then-le : goal.returns-then-le
 returns-then-le c =

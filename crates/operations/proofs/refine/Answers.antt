@@ -40,13 +40,11 @@ slice_bounds-net-end c =
 pub invariant_of-net : goal.invariant_of-net
 invariant_of-net c =
     let j = c.in_ok-job.field-0.job in
-    let k = c.in_ok-job.ensures in
     record {
       ready = record {
         checked = j.checked;
         in_ranges = allowed-ranges _ _ (rw c.places-places.ensures.0 (sizing-allowed _ c.args.sizing.now (sym c.in_ok-check_sizing.ensures)));
       };
-      weighed = k.passed.weighed;
     }
 
 pub refine_at-requires-clause-allowed_by : goal.refine_at-requires-clause-allowed_by

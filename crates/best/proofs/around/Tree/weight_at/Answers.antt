@@ -18,12 +18,12 @@ pub overflow_add-result-then-i-job : goal.overflow_add-result-then-i-job
 overflow_add-result-then-i-job c =
     let w = c.args.self.now in
     let k = w.net.now.job.checked in
-    omega (arith, segment-weight k w.counted c.args.p (omega arith) (omega arith) _ (c.from.ensures ∙ w.net.now.weighed.weighs _ (omega arith)), checked-weight k c.args.p c.requires)
+    omega (arith, segment-weight k w.counted c.args.p (omega arith) (omega arith) _ (c.from.ensures ∙ w.weighed.weighs _ (omega arith)), checked-weight k c.args.p c.requires)
 
 pub returns-then-i-job : goal.returns-then-i-job
 returns-then-i-job c =
     let w = c.args.self.now in
-    segment-weight w.net.now.job.checked w.counted c.args.p (omega arith) (omega arith) _ (c.from.ensures ∙ w.net.now.weighed.weighs _ (omega arith))
+    segment-weight w.net.now.job.checked w.counted c.args.p (omega arith) (omega arith) _ (c.from.ensures ∙ w.weighed.weighs _ (omega arith))
 
 pub overflow_mul-result-2 : goal.overflow_mul-result-2
 overflow_mul-result-2 c =
