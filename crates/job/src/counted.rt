@@ -94,12 +94,18 @@ impl<'a> Records<'a> {
         )
     }
 
+    // How many places there are.
+    pub fn places(&self) -> usize
+        ensures { result ≡ places_by self.now.counts }
+    {
+        self.counts.stages + self.counts.segments + self.counts.repeaters
+    }
+
     // Where among all records the weight records start.
     fn first_weight(&self) -> usize
         ensures { result ≡ self.now.counts.widths + self.now.counts.sizes + places_by self.now.counts }
     {
-        let places = self.counts.stages + self.counts.segments + self.counts.repeaters;
-        self.counts.widths + self.counts.sizes + places
+        self.counts.widths + self.counts.sizes + self.places()
     }
 }
 

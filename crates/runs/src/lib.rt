@@ -65,9 +65,12 @@ pub fn bytes_in_order(run: &Run<'_>, at: usize, least: usize, most: usize) -> bo
     requires { at < 16 }
     ensures { result ≡ every run.now.count (byte_within run.now.bytes.now run.now.start at least most) && every (run.now.count - 1) (byte_in_order run.now.bytes.now run.now.start at) }
 {
-    let inside = within(run, Byte(at), least, most);
-    let pairs = run.count.saturating_sub(1);
-    inside & (0..pairs).all(|k| run.byte(k, at) <= run.byte(k + 1, at))
+    (0..run.count).all(|k| {
+        let value = run.byte(k, at);
+        // the first byte is compared with itself
+        let in_order = run.byte(k.saturating_sub(1), at) <= value;
+        in_order & (least <= value) & (value <= most)
+    })
 }
 
 // Does the byte at `at` strictly rise from each record to the next?

@@ -5,4 +5,4 @@ use Rattle.runs.proofs.All.{every-below}
 use Rattle.allowed.proofs.in_ranges.Goals as goal
 
 pub returns : goal.returns
-returns c = rw (← c.places.ensures.0) (every-below c.all.ensures.ran (λ k q t. search (rules, tests)) (λ k q t. search (rules, tests)))
+returns c = rw (← c.places.ensures) (every-below c.all.ensures.ran (λ k q t. search (rules, tests)) (λ k q t. search (rules, tests)))
