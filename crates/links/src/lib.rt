@@ -1,7 +1,7 @@
 // The segments at each node, found once for a job, so that a walk over the tree asks each segment once.
 #![tactic(auto)]
 
-ghost use Rattle.std.specs.Prelude.{◌≡◌, true, ◌+◌, ◌<◌, ◌≤◌, length};
+ghost use Rattle.std.specs.Prelude.{◌≡◌, true, ◌+◌, ◌<◌, ◌≤◌, length, replicate};
 ghost use Rattle.net.specs.Questions.{question9};
 ghost use Rattle.links.specs.Links.{Unlinked, LinkedBy, SameLengths};
 
@@ -16,7 +16,9 @@ pub struct Links {
 
 impl Links {
     // Tables for `link` to fill.
-    pub fn new() -> Links {
+    pub fn new() -> Links
+        ensures { (result.first ≡ replicate 65 0) × (result.next ≡ replicate 64 0) }
+    {
         Links {
             first: [0; 65],
             next: [0; 64],

@@ -56,11 +56,10 @@ module _ {c : Counts} {job x : List ℕ} (ready : Ready c job x) where
       unfolding weight_behind
       weighted-is = rw (f.delay, e, t.load, t.weight)
 
-      -- twice the weight of all sinks is at most 33,150
-      pub delay-room : 2 * u.weight * one.delay.0 + u.delay.0 < 2 ^ 63
-      delay-room =
+      -- as often as w says: twice the weight of all sinks is at most 33,150
+      pub delay-room : (w : ℕ) → w ≤ 33150 → w * one.delay.0 + u.delay.0 < 2 ^ 63
+      delay-room w m =
           let d : one.delay.0 ≤ 1370000000000 = rw (f.delay, e, t.load) (repeater_delay-small net o l x ready.in_ranges r h) in
-          let m : 2 * u.weight ≤ 33150 = omega (arith, weight-small) in
           omega (arith, mul-le-mul m d, t.delay, inside-small ready (suc (net.site r)) (o.sites r h))
 
       pub repeated-hanging : (q : Part) → q.weight ≡ u.weight → q.load.0 ≡ net.gate k → q.delay.0 ≡ 2 * u.weight * one.delay.0 + u.delay.0

@@ -1,5 +1,6 @@
 -- `parts::repeated` meets its contract: each step is a lemma of `Repeating`.
 use mathlib.Core.Path.{refl}
+use Prim.Native.Nat.{◌*◌}
 use native.Mathlib.Omega.{arith}
 use Rattle.net.proofs.Questions.{repeater-held}
 use Rattle.parts.proofs.Repeating.{load-small, weight-small, charge-is, delay-room, repeated-hanging}
@@ -21,11 +22,15 @@ overflow_mul-part c = omega (arith, weight-small c.args.net.now.ready c.args.r c
 
 pub weighted-requires : goal.weighted-requires
 weighted-requires c =
-    omega (arith, delay-room c.args.net.now.ready c.args.r c.requires.r_lt_repeaters _ c.requires.tally _ c.from-size.ensures _ c.driver-driven.ensures)
+    let w = weight-small c.args.net.now.ready c.args.r c.requires.r_lt_repeaters _ c.requires.tally in
+    let room = delay-room c.args.net.now.ready c.args.r c.requires.r_lt_repeaters _ c.requires.tally _ c.from-size.ensures _ c.driver-driven.ensures in
+    omega (arith, room (2 * c.args.part.weight) (omega arith))
 
 pub add-requires : goal.add-requires
 add-requires c =
-    omega (arith, c.weighted.ensures.0, delay-room c.args.net.now.ready c.args.r c.requires.r_lt_repeaters _ c.requires.tally _ c.from-size.ensures _ c.driver-driven.ensures)
+    let w = weight-small c.args.net.now.ready c.args.r c.requires.r_lt_repeaters _ c.requires.tally in
+    let room = delay-room c.args.net.now.ready c.args.r c.requires.r_lt_repeaters _ c.requires.tally _ c.from-size.ensures _ c.driver-driven.ensures in
+    omega (arith, c.weighted.ensures.0, room (2 * c.args.part.weight) (omega arith))
 
 pub returns : goal.returns
 returns c =
