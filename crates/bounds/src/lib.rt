@@ -53,7 +53,7 @@ fn end_from(ends: Ends, side: Side) -> u8
 // Refines at each position in turn, and tells whether an index changed. What the places drive is found once: a place drives what stands after it,
 // and an index is put only before that.
 #[tactic(auto, using(place::proofs::Steps::place_few))]
-fn sweep(places: &Places<'_>, x: &mut [u8], side: Side) -> bool
+fn sweep(places: &Places<'_, '_>, x: &mut [u8], side: Side) -> bool
     requires { ApproachingFrom places.now.arranged.job.counts places.now.arranged.job.bytes.now (side_of side) x.old }
     ensures { SweptFrom places.now.arranged.job.counts places.now.arranged.job.bytes.now (side_of side) x.old x.new result }
 {
@@ -82,7 +82,7 @@ fn sweep(places: &Places<'_>, x: &mut [u8], side: Side) -> bool
 }
 
 // The bound from a side, whatever x held before.
-pub fn bound(places: &Places<'_>, x: &mut [u8], side: Side)
+pub fn bound(places: &Places<'_, '_>, x: &mut [u8], side: Side)
     requires { ForPlaces places.now.arranged.job.counts x.old }
     ensures { BoundFrom places.now.arranged.job.counts places.now.arranged.job.bytes.now (side_of side) x.new }
 {

@@ -14,7 +14,7 @@ use quantity::Delay;
 
 // The least delay, lean and wide, by the search between the bounds; x is its working space.
 fn least(
-    places: &Places<'_>,
+    places: &Places<'_, '_>,
     bounds: Bounds<'_>,
     x: &mut [u8],
     lean: &mut [u8],
@@ -37,7 +37,7 @@ fn least(
 
 // Finds the least delay, lean and wide in lent working space, and writes the finished reply.
 fn find_and_write(
-    places: &Places<'_>,
+    places: &Places<'_, '_>,
     position: &[usize; 76],
     bounds: Bounds<'_>,
     x: &mut [u8],
@@ -60,7 +60,7 @@ fn find_and_write(
 }
 
 // Writes the finished reply.
-pub fn finish(places: &Places<'_>, position: &[usize; 76], bounds: Bounds<'_>, reply: &mut [u8])
+pub fn finish(places: &Places<'_, '_>, position: &[usize; 76], bounds: Bounds<'_>, reply: &mut [u8])
     requires positions_of { PositionsOf places.now.arranged.job.counts places.now.arranged.job.bytes.now position.now }
     requires bounded_by { BoundedBy places.now.arranged.job.counts places.now.arranged.job.bytes.now bounds.lower.now bounds.upper.now }
     requires counts_in_bounds { 8 * suc (places_by places.now.arranged.job.counts) ≤ length reply.old }

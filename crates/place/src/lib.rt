@@ -18,9 +18,9 @@ use quantity::{Capacitance, Delay, Resistance};
 
 // The places in driving order, with their weights.
 #[derive(Clone, Copy)]
-pub struct Places<'a> {
+pub struct Places<'a, 'w> {
     pub arranged: Arranged<'a>,
-    pub weights: &'a [u64; 76],
+    pub weights: &'w [u64; 76],
     ghost weighed: { Weighed arranged.job.counts arranged.job.bytes.now weights.now },
 }
 
@@ -163,7 +163,7 @@ pub fn slope(job: &Job<'_>, weight: u64, p: usize, k: u8) -> Resistance
 
 // What the delay grows by with each unit of load behind position a.
 fn onward(
-    places: &Places<'_>,
+    places: &Places<'_, '_>,
     bounds: Bounds<'_>,
     upstream: &[Resistance; 76],
     a: usize,
@@ -186,7 +186,7 @@ fn onward(
 
 // The weighted upstream resistance of position t, from those of the positions before it.
 pub fn upstream_at(
-    places: &Places<'_>,
+    places: &Places<'_, '_>,
     bounds: Bounds<'_>,
     upstream: &[Resistance; 76],
     t: usize,
@@ -205,7 +205,7 @@ pub fn upstream_at(
 
 // The weighted upstream resistances of the first n positions.
 pub fn go_upstream(
-    places: &Places<'_>,
+    places: &Places<'_, '_>,
     bounds: Bounds<'_>,
     upstream: &mut [Resistance; 76],
     n: usize,
@@ -222,7 +222,7 @@ pub fn go_upstream(
 // What the places drive where free places show no load, and what the held places add to the delay, in one pass from the last position to the first.
 #[tactic(auto, using(crate::proofs::Steps::place_few, crate::proofs::Steps::node_few))]
 pub fn drive_and_add(
-    places: &Places<'_>,
+    places: &Places<'_, '_>,
     bounds: Bounds<'_>,
     driven: &mut [Capacitance; 76],
 ) -> Delay

@@ -84,7 +84,7 @@ fn start(tables: &SearchTables<'_>, fixed: Delay, x: &mut [u8], kept: &mut Kept<
 }
 
 // Takes every sizing between two bounds, where x is the lower one.
-pub fn between(places: &Places<'_>, bounds: Bounds<'_>, x: &mut [u8], kept: &mut Kept<'_>)
+pub fn between(places: &Places<'_, '_>, bounds: Bounds<'_>, x: &mut [u8], kept: &mut Kept<'_>)
     requires between { Between places.now.arranged.job.counts places.now.arranged.job.bytes.now bounds.lower.now bounds.upper.now }
     requires x_value { x.old ≡ bounds.lower.now }
     requires for_places { ForPlaces places.now.arranged.job.counts kept.old.lean.now × ForPlaces places.now.arranged.job.counts kept.old.wide.now }

@@ -71,7 +71,7 @@ impl From<Failed> for Unwritten {
 
 // Question 14, and the reply.
 fn answer(
-    places: &Places<'_>,
+    places: &Places<'_, '_>,
     position: &[usize; 76],
     bounds: Bounds<'_>,
     reply: &mut [u8],
