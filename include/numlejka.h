@@ -56,8 +56,8 @@
  * nothing writes to a buffer that a running call reads, and nothing uses a buffer that a running call writes to.
  *
  * Stack. A call needs at most 24 KiB of stack. Measured on painted stacks, on x86-64 Linux, with a chain of 64 segments
- * behind 4 stages and 16 places free, the deepest net and the deepest search that there are: size 18 KiB, measure and
- * choose 12 KiB, refine 4 KiB. The rest is margin; it covers what the dynamic linker may use when the C library's memcpy is
+ * behind 4 stages and 16 places free, the deepest net and the deepest search that there are: size, measure and choose
+ * 12 KiB, refine 4 KiB. The rest is margin; it covers what the dynamic linker may use when the C library's memcpy is
  * called for the first time (3 KiB more). tests/tests/stack.rs measures it again.
  *
  * Time. A call ends on every input. How long it takes depends on the job and is not promised.
