@@ -1,14 +1,12 @@
-// What a search goes by and does not change: where the load of each place arrives, and which places are free, with what the held ones drive and add.
+// What a search goes by and does not change: where the load of each place arrives, and which places are free, with what the held ones drive.
 ghost use Rattle.std.specs.Prelude.{◌≡◌, ◌≤◌};
 ghost use Rattle.net.specs.Job.{places_by};
 ghost use Rattle.place.specs.Figures.{loads, resistances};
-ghost use Rattle.place.specs.ByCounts.{fixed_delay};
-ghost use Rattle.free.specs.Searching.{Between, Prepared, BothLong, Skipped, arrives_at, Lifted};
+ghost use Rattle.free.specs.Searching.{Prepared, BothLong, Skipped, arrives_at, Lifted};
 
 use job::Job;
-use place::Places;
 use positions::{Arranged, Bounds};
-use quantity::{Capacitance, Delay, Resistance};
+use quantity::{Capacitance, Resistance};
 
 // The node at which a load at `node` arrives, through the held wires above it.
 fn arrival(arranged: &Arranged<'_>, bounds: Bounds<'_>, ups: &[usize; 76], node: usize) -> usize

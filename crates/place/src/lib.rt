@@ -8,7 +8,6 @@ ghost use Rattle.net.specs.Job.{places_by};
 ghost use Rattle.net.specs.Driving.{load_at};
 ghost use Rattle.net.specs.Order.{placed_by};
 ghost use Rattle.job.specs.Tables.{TableOf};
-ghost use Rattle.job.specs.Ranges.{driver_at};
 ghost use Rattle.place.specs.Figures.{resistances};
 ghost use Rattle.place.specs.ByCounts.{Weighed, BoundsOf, SinkAt, DriveInLimits, IndexAndWeight, SlopeAt, SpotOf, StepInLimits, Stepped, Driven, fixed_delay, onward_from, upstream_of, Upstream, DriverInLimits, DriverStepped, WireInLimits, ChargeInLimits, Charged};
 

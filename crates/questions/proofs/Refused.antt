@@ -17,7 +17,7 @@ use Rattle.questions.specs.declared.Failed.{Failed}
 use Rattle.questions.specs.Check.{CheckOf, questions_from1}
 use Rattle.questions.proofs.Numbers.{yes, last, refused-1}
 
--- What question 1 gives: there is a record. It is for the must-fail edits that take one away.
+-- What question 1 gives: there is a record.
 pub some-record : (b : List ℕ) {r : Bool} → r ≡ question1 b → not r ≡ false → 1 ≤ records b
 unfolding question1
 some-record b {r} e t =

@@ -2,7 +2,7 @@
 #![tactic(auto)]
 
 ghost use Rattle.std.specs.Prelude.{◌≡◌, suc, ◌*◌, ◌≤◌, length};
-ghost use Rattle.net.specs.Job.{places_by, counts_of};
+ghost use Rattle.net.specs.Job.{places_by};
 ghost use Rattle.net.specs.Net.{net_by};
 ghost use Rattle.net.specs.Checked.{SinkWeights};
 ghost use Rattle.net.specs.Questions.{refusal};
