@@ -82,7 +82,7 @@ impl FreePlace {
     }
 }
 
-impl SearchTables<'_> {
+impl SearchTables<'_, '_, '_, '_> {
     // The place at position t with what its steps need, read once for all of them.
     pub fn free_place(&self, t: usize) -> FreePlace
         requires { t < places_by self.now.job.counts }

@@ -18,7 +18,7 @@ use quantity::{Capacitance, Delay, Resistance};
 // Takes every sizing that has the indices of x from `left` on and lies between the bounds before it, where the place before `left` is free and
 // not the last one that is. The loads of the free places from `left` on, each at the node where it arrives, and the delay so far are carried along.
 fn search(
-    tables: &SearchTables<'_>,
+    tables: &SearchTables<'_, '_, '_, '_>,
     left: usize,
     added: Delay,
     x: &mut [u8],
@@ -59,7 +59,7 @@ fn search(
 }
 
 // Takes every sizing between the bounds, where x is the lower bound and the held places add `fixed` to the delay.
-fn start(tables: &SearchTables<'_>, fixed: Delay, x: &mut [u8], kept: &mut Kept<'_>)
+fn start(tables: &SearchTables<'_, '_, '_, '_>, fixed: Delay, x: &mut [u8], kept: &mut Kept<'_>)
     requires held_add { fixed.0 ≡ fixed_delay tables.now.job.counts tables.now.job.bytes.now tables.now.bounds.lower.now tables.now.bounds.upper.now tables.now.driven.now }
     requires x_value { x.old ≡ tables.now.bounds.lower.now }
     requires for_places { ForPlaces tables.now.job.counts kept.old.lean.now × ForPlaces tables.now.job.counts kept.old.wide.now }
@@ -93,24 +93,17 @@ pub fn between(places: &Places<'_, '_>, bounds: Bounds<'_>, x: &mut [u8], kept: 
         ≡ taken_between places.now.arranged.job.counts places.now.arranged.job.bytes.now
         bounds.entry.lower.now bounds.entry.upper.now (found_of kept.old) }
 {
-    let arranged = &places.arranged;
     let mut driven = [Capacitance(0); 76];
-    let fixed = place::drive_and_add(places, bounds, &mut driven);
     let mut upstream = [Resistance(0); 76];
-    place::go_upstream(places, bounds, &mut upstream, arranged.job.places());
     let mut ups = [0; 76];
-    free::lift(arranged, bounds, &mut ups);
     let mut skips = [0; 77];
-    free::skip(&arranged.job, bounds, &mut skips);
-    let tables = SearchTables {
-        job: arranged.job,
-        order: arranged.order,
-        weights: places.weights,
+    let (tables, fixed) = SearchTables::new(
+        places,
         bounds,
-        upstream: &upstream,
-        driven: &driven,
-        ups: &ups,
-        skips: &skips,
-    };
+        &mut upstream,
+        &mut driven,
+        &mut ups,
+        &mut skips,
+    );
     start(&tables, fixed, x, kept);
 }
