@@ -4,7 +4,7 @@ use mathlib.Core.Logic.{◌⊎◌, inl, inr}
 use mathlib.Core.Bool.{true, false}
 use mathlib.Core.List.{List}
 use Prim.Native.Nat.{ℕ, suc, ◌+◌, ◌≤◌, ◌<◌}
-use native.Mathlib.Nat.{eq-or-lt_of_le}
+use native.Mathlib.Nat.{add_assoc, eq-or-lt_of_le}
 use native.Mathlib.Decide.{ℕ_discrete}
 use native.Mathlib.Omega.{arith}
 use borrow.Author.Tests.{lt-leb}
@@ -17,6 +17,9 @@ use Rattle.net.specs.declared.Counts.{Counts}
 use Rattle.net.specs.Job.{segment_parent}
 use Rattle.net.specs.Net.{Net, net_by}
 use Rattle.net.specs.Questions.{question9}
+use Rattle.job.specs.declared.runs.Run.{Run}
+use Rattle.job.specs.Runs.{byte_of}
+use Rattle.job.specs.RunOf.{RunOf}
 use Rattle.links.specs.Links.{First, Linked, Unlinked}
 
 -- what the filling of the links knows when the segments from j on are linked: each of them hangs at a node that stands before it
@@ -82,6 +85,10 @@ module _ (net : Net) where
 
   pub linking-end : (first next : List ℕ) → Linking net first next 0 → Linked net first next
   linking-end first next l = record { nodes = l.nodes; segments = l.segments; firsts = l.firsts; nexts = λ i h. l.nexts i (omega arith) h }
+
+-- The parent of a segment, read from the run of the segments.
+pub parent-read : (c : Counts) (b : List ℕ) {r : Run} (i q : ℕ) → RunOf b (c.widths + c.sizes + c.stages) c.segments r → q ≡ byte_of r.bytes.now r.start 2 i → q ≡ (net_by c b).parent i
+parent-read c b {r} i q o e = rw (o.bytes, o.start, add_assoc (c.widths + c.sizes) c.stages i) at e
 
 -- Question 9 of the net of a job, by how the loop ends: at a segment that hangs behind itself, or after all segments.
 module _ (c : Counts) (b : List ℕ) where

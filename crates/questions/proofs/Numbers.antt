@@ -72,11 +72,15 @@ pub weights-there : (b : List ℕ) {c : Counts} {n : ℕ} → c ≡ counts_of b 
 weights-there b e f = rw (e, f) record { counted = refl; there = omega (arith, weights-held b) }
 
 -- The weight bytes of the segments are the weights before any weight record is read.
-pub own-loaded : {c : Counts} {b t : List ℕ} {r : Run} → RunOf b (first_segment c) c.segments r → OwnWeights r.bytes.now r.start r.count t → LoadedTo c b 0 t
+pub own-loaded : {c : Counts} {b t : List ℕ} → OwnWeights b (c.widths + c.sizes + c.stages) c.segments t → LoadedTo c b 0 t
 unfolding last_at
-own-loaded {c} {b} {t} o w =
+own-loaded {c} o = record { long = o.long; weighs = λ i h. rw (← add_assoc (c.widths + c.sizes) c.stages i) (o.own i h) }
+
+-- The same, where they are read from the run of the segments.
+pub run-loaded : {c : Counts} {b t : List ℕ} {r : Run} → RunOf b (first_segment c) c.segments r → OwnWeights r.bytes.now r.start r.count t → LoadedTo c b 0 t
+run-loaded {c} {b} {t} o w =
     let own : OwnWeights b (first_segment c) c.segments t = rw (o.bytes, o.start, o.count) at w in
-    record { long = own.long; weighs = λ i h. rw (← add_assoc (c.widths + c.sizes) c.stages i) (own.own i h) }
+    own-loaded {c = c} own
 
 -- The first no among some questions is that of all.
 found : (qs rs : List Question) (f : Refusal) → number_of f ≡ first_no qs → number_of f ≡ first_no (qs ++ rs)
@@ -139,13 +143,13 @@ module _ {b : List ℕ} {a : AllRecords} (k : Begun b a) where
     pub from-9 : {n : ℕ} → n ≡ first_no (questions_from9 a.records.counts a.records.bytes.now) → n ≡ refusal b
     from-9 t = both (passed-on (questions_from24 a.records.counts a.records.bytes.now) (questions_from9 a.records.counts a.records.bytes.now) passed-24 t)
 
--- Questions 10 and 11, by the loop over the run of the segments, where those before them pass.
-module _ (c : Counts) (b first : List ℕ) {r : Run} (o : RunOf b (first_segment c) c.segments r) (ten : all_fit b c (first_segment c) c.segments ≡ question10 c b)
+-- Questions 10 and 11, by the loop over the segments, where those before them pass.
+module _ (c : Counts) (b first : List ℕ) (ten : all_fit b c (first_segment c) c.segments ≡ question10 c b)
     (eleven : all_end b first (first_segment c) c.segments ≡ question11 c b) where
-  told : segments_number r.bytes.now c first r.start r.count ≡ cond (question10 c b) (cond (question11 c b) 0 11) 10
-  told = rw (o.bytes, o.start, o.count, ten, eleven)
+  told : segments_number b c first (first_segment c) c.segments ≡ cond (question10 c b) (cond (question11 c b) 0 11) 10
+  told = rw (ten, eleven)
 
-  pub segments-refuse : (f : Refusal) (qs : List Question) → number_of f ≡ segments_number r.bytes.now c first r.start r.count
+  pub segments-refuse : (f : Refusal) (qs : List Question) → number_of f ≡ segments_number b c first (first_segment c) c.segments
       → number_of f ≡ first_no (ask 10 (question10 c b) ∷ ask 11 (question11 c b) ∷ qs)
   unfolding first_no
   segments-refuse f qs h = go (question10 c b) (question11 c b) (h ∙ told)
@@ -155,7 +159,7 @@ module _ (c : Counts) (b first : List ℕ) {r : Run} (o : RunOf b (first_segment
       go true false t = t
       go false q t = t
 
-  pub segments-pass : {n : ℕ} (qs : List Question) → 0 ≡ segments_number r.bytes.now c first r.start r.count → n ≡ first_no qs
+  pub segments-pass : {n : ℕ} (qs : List Question) → 0 ≡ segments_number b c first (first_segment c) c.segments → n ≡ first_no qs
       → n ≡ first_no (ask 10 (question10 c b) ∷ ask 11 (question11 c b) ∷ qs)
   unfolding first_no
   segments-pass {n} qs h t = go (question10 c b) (question11 c b) (h ∙ told)
@@ -164,3 +168,25 @@ module _ (c : Counts) (b first : List ℕ) {r : Run} (o : RunOf b (first_segment
       go true true u = t
       go true false u = absurd (omega arith)
       go false q u = absurd (omega arith)
+
+-- The same, where the loop is over the run of the segments.
+module _ (c : Counts) (b first : List ℕ) {r : Run} (o : RunOf b (first_segment c) c.segments r) (ten : all_fit b c (first_segment c) c.segments ≡ question10 c b)
+    (eleven : all_end b first (first_segment c) c.segments ≡ question11 c b) where
+  numbered : segments_number r.bytes.now c first r.start r.count ≡ segments_number b c first (first_segment c) c.segments
+  numbered = rw (o.bytes, o.start, o.count) refl
+
+  pub run-refuse : (f : Refusal) (qs : List Question) → number_of f ≡ segments_number r.bytes.now c first r.start r.count
+      → number_of f ≡ first_no (ask 10 (question10 c b) ∷ ask 11 (question11 c b) ∷ qs)
+  run-refuse f qs h = segments-refuse c b first ten eleven f qs (h ∙ numbered)
+
+  pub run-pass : {n : ℕ} (qs : List Question) → 0 ≡ segments_number r.bytes.now c first r.start r.count → n ≡ first_no qs
+      → n ≡ first_no (ask 10 (question10 c b) ∷ ask 11 (question11 c b) ∷ qs)
+  run-pass qs h t = segments-pass c b first ten eleven qs (h ∙ numbered) t
+
+-- Where the loop finds no fault, the fields of all pass.
+pub all-fit : (c : Counts) (b first : List ℕ) → 0 ≡ segments_number b c first (first_segment c) c.segments → all_fit b c (first_segment c) c.segments ≡ true
+all-fit c b first = go (all_fit b c (first_segment c) c.segments) (all_end b first (first_segment c) c.segments)
+  where
+    go : (p q : Bool) → ◌≡◌ {A = ℕ} 0 (cond p (cond q 0 11) 10) → p ≡ true
+    go true q u = refl
+    go false q u = absurd (omega arith)

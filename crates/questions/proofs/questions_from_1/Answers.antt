@@ -6,7 +6,7 @@ use Rattle.segments.specs.Tests.{first_segment, all_fit, all_end}
 use Rattle.asked.proofs.Regroup.{question10-by}
 use Rattle.asked.proofs.Branches.{question11-by}
 use Rattle.questions.specs.Check.{questions_from9, questions_from22}
-use Rattle.questions.proofs.Numbers.{yes, no, passes, own-loaded, refused-1, refused-24, few-segments, from-9, segments-refuse, segments-pass}
+use Rattle.questions.proofs.Numbers.{yes, no, passes, run-loaded, refused-1, refused-24, few-segments, from-9, run-refuse, run-pass}
 use Rattle.questions.proofs.questions_from_1.Goals as goal
 use Rattle.questions.proofs.questions_from_1.Goals.{After-segments_fit, After-questions_from_22}
 
@@ -45,7 +45,7 @@ unfolding questions_from9
 returns-in_err-segments_fit-clause-number c =
     let a = (goal.at.returns-in_err-segments_fit-clause-number c).After-segments_fit in
     let h = from-9 c.in_ok-all.ensures.begun c.in_ok-questions_from_24.ensures
-    (yes 8 _ c.link.ensures.asked c.in_ok-require.ensures (segments-refuse _ _ _ c.segments.ensures (ten a) (eleven a) _ _ c.in_err-segments_fit.ensures.number)) in
+    (yes 8 _ c.link.ensures.asked c.in_ok-require.ensures (run-refuse _ _ _ c.segments.ensures (ten a) (eleven a) _ _ c.in_err-segments_fit.ensures.number)) in
     search (rules, h)
 
 pub segments_fit-requires-clause-in_bounds : goal.segments_fit-requires-clause-in_bounds
@@ -57,7 +57,7 @@ pub questions_from_22-requires-clause-few : goal.questions_from_22-requires-clau
 questions_from_22-requires-clause-few c = few-segments c.in_ok-all.ensures.begun c.in_ok-questions_from_24.ensures
 
 pub questions_from_22-requires-clause-loaded_to : goal.questions_from_22-requires-clause-loaded_to
-questions_from_22-requires-clause-loaded_to c = own-loaded {c = c.in_ok-all.all.records.counts} c.segments.ensures (c.in_ok-segments_fit.ensures.weights refl)
+questions_from_22-requires-clause-loaded_to c = run-loaded {c = c.in_ok-all.all.records.counts} c.segments.ensures (c.in_ok-segments_fit.ensures.weights refl)
 
 -- what is known once questions 22, 23, 20 and 21 are asked
 from-22 : (c : After-questions_from_22) → {n : ℕ} → n ≡ first_no (questions_from22 c.in_ok-all.all.records.counts c.in_ok-all.all.records.bytes.now) → n ≡ refusal c.args.bytes.now
@@ -65,7 +65,7 @@ unfolding questions_from9
 from-22 c t =
     let a = (goal.at.After-questions_from_22 c).After-segments_fit in
     from-9 c.in_ok-all.ensures.begun c.in_ok-questions_from_24.ensures
-    (yes 8 _ c.link.ensures.asked c.in_ok-require.ensures (segments-pass _ _ _ c.segments.ensures (ten a) (eleven a) _ c.in_ok-segments_fit.ensures.number t))
+    (yes 8 _ c.link.ensures.asked c.in_ok-require.ensures (run-pass _ _ _ c.segments.ensures (ten a) (eleven a) _ c.in_ok-segments_fit.ensures.number t))
 
 pub returns-in_err-questions_from_22-clause-number : goal.returns-in_err-questions_from_22-clause-number
 returns-in_err-questions_from_22-clause-number c =
